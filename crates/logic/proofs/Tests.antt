@@ -1,0 +1,139 @@
+-- Laws of the tests, quantifiers and sums of specs/Tests.antt. Assumes nothing.
+use Prim.Native.Nat.{ℕ, zero, suc, _+_, _*_, _≤_, _<_}
+use native.Mathlib.Nat.{le-refl, le-step, not-suc-le-zero, le-of-suc-le-suc, add-zero, zero-add, add-assoc}
+use native.Mathlib.Omega.{arith}
+use mathlib.Core.Path.{_≡_, refl, sym, _∙_, ap, subst, fun-ext}
+use mathlib.Core.Logic.{_⊎_, inl, inr, ⊎-elim, _↔_}
+use mathlib.Core.Bool.{Bool, true, false, cond}
+use mathlib.Core.List.{List, [], _∷_, _++_}
+use lib.Arith.{lt-of-le-ne}
+use lib.Dec.{T, eqb, eqb→eq, eqb-refl, ltb}
+use lib.ListN.{length}
+use Rattle.logic.specs.Tests.{_and_, _or_, isnt, _implies_, every, some, everyOf, someOf, member, empty, distinct, total, weigh, count, upto, pick}
+
+-- a test passes or does not
+pub decide : (b : Bool) → T b ⊎ (T b → ⊥)
+decide true = inl tt
+decide false = inr (λ t. t)
+
+pub true-of : (b : Bool) → T b → b ≡ true
+true-of true t = refl
+true-of false t = absurd t
+
+pub false-of : (b : Bool) → (T b → ⊥) → b ≡ false
+false-of true n = absurd (n tt)
+false-of false n = refl
+
+-- two tests that pass together are equal
+pub test-eq : (a b : Bool) → (T a → T b) → (T b → T a) → a ≡ b
+test-eq true true f g = refl
+test-eq true false f g = absurd (f tt)
+test-eq false true f g = absurd (g tt)
+test-eq false false f g = refl
+
+-- a choice by a test, by cases
+pub cond-cases {ℓ} : {A : Type 0} (P : A → Type ℓ) (b : Bool) (x y : A) → (T b → P x) → ((T b → ⊥) → P y) → P (cond b x y)
+cond-cases P true x y f g = f tt
+cond-cases P false x y f g = g (λ t. t)
+
+pub eq→eqb : (m n : ℕ) → m ≡ n → T (eqb m n)
+eq→eqb m n e = subst (λ k. T (eqb m k)) e (eqb-refl m)
+
+pub and-intro : (a b : Bool) → T a → T b → T (a and b)
+unfolding _and_
+and-intro true b s t = t
+and-intro false b s t = absurd s
+
+pub and-left : (a b : Bool) → T (a and b) → T a
+unfolding _and_
+and-left true b t = tt
+and-left false b t = absurd t
+
+pub and-right : (a b : Bool) → T (a and b) → T b
+unfolding _and_
+and-right true b t = t
+and-right false b t = absurd t
+
+pub or-left : (a b : Bool) → T a → T (a or b)
+unfolding _or_
+or-left true b t = tt
+or-left false b t = absurd t
+
+pub or-right : (a b : Bool) → T b → T (a or b)
+unfolding _or_
+or-right true b t = tt
+or-right false b t = t
+
+pub or-elim : (a b : Bool) → T (a or b) → T a ⊎ T b
+unfolding _or_
+or-elim true b t = inl tt
+or-elim false b t = inr t
+
+pub isnt-intro : (a : Bool) → (T a → ⊥) → T (isnt a)
+unfolding isnt
+isnt-intro true n = absurd (n tt)
+isnt-intro false n = tt
+
+pub isnt-elim : (a : Bool) → T (isnt a) → T a → ⊥
+unfolding isnt
+isnt-elim true t u = t
+isnt-elim false t u = u
+
+pub implies-intro : (a b : Bool) → (T a → T b) → T (a implies b)
+implies-intro a b f = ⊎-elim (λ t. or-right (isnt a) b (f t)) (λ n. or-left (isnt a) b (isnt-intro a n)) (decide a)
+
+pub implies-elim : (a b : Bool) → T (a implies b) → T a → T b
+implies-elim a b t u = ⊎-elim (λ n. absurd (isnt-elim a n u)) (λ v. v) (or-elim (isnt a) b t)
+
+-- a number below suc n is below n, or is n
+pub lt-suc-cases : (k n : ℕ) → k < suc n → (k < n) ⊎ (k ≡ n)
+lt-suc-cases k n h =
+    ⊎-elim (λ t. inr (eqb→eq k n t)) (λ no-eq. inl (lt-of-le-ne (le-of-suc-le-suc h) (λ e. no-eq (eq→eqb k n e)))) (decide (eqb k n))
+
+pub every-intro : (n : ℕ) (p : ℕ → Bool) → ((k : ℕ) → k < n → T (p k)) → T (every n p)
+unfolding every
+every-intro zero p f = tt
+every-intro (suc n) p f = and-intro _ _ (every-intro n p (λ k h. f k (le-step h))) (f n (le-refl (suc n)))
+
+pub every-elim : (n : ℕ) (p : ℕ → Bool) → T (every n p) → (k : ℕ) → k < n → T (p k)
+unfolding every
+every-elim zero p t k h = absurd (not-suc-le-zero h)
+every-elim (suc n) p t k h =
+    ⊎-elim (every-elim n p (and-left _ _ t) k) (λ e. subst (λ i. T (p i)) (sym e) (and-right _ _ t)) (lt-suc-cases k n h)
+
+pub some-intro : (n : ℕ) (p : ℕ → Bool) (k : ℕ) → k < n → T (p k) → T (some n p)
+unfolding some
+some-intro zero p k h t = absurd (not-suc-le-zero h)
+some-intro (suc n) p k h t =
+    ⊎-elim (λ l. or-left _ _ (some-intro n p k l t)) (λ e. or-right _ _ (subst (λ i. T (p i)) e t)) (lt-suc-cases k n h)
+
+pub some-elim : (n : ℕ) (p : ℕ → Bool) → T (some n p) → (k : ℕ) × (k < n) × T (p k)
+unfolding some
+some-elim zero p t = absurd t
+some-elim (suc n) p t =
+    ⊎-elim (λ u. let (k, h, v) = some-elim n p u in (k, le-step h, v)) (λ u. (n, le-refl (suc n), u)) (or-elim _ _ t)
+
+pub everyOf-intro : (l : List ℕ) (p : ℕ → Bool) → ((x : ℕ) → T (member x l) → T (p x)) → T (everyOf l p)
+unfolding everyOf someOf
+everyOf-intro [] p f = tt
+everyOf-intro (x ∷ l) p f =
+    and-intro _ _ (f x (or-left _ _ (eqb-refl x))) (everyOf-intro l p (λ y m. f y (or-right (eqb y x) _ m)))
+
+pub someOf-intro : (l : List ℕ) (p : ℕ → Bool) (x : ℕ) → T (member x l) → T (p x) → T (someOf l p)
+unfolding someOf
+someOf-intro [] p x m t = absurd m
+someOf-intro (y ∷ l) p x m t =
+    ⊎-elim (λ e. or-left _ _ (subst (λ i. T (p i)) (eqb→eq x y e) t)) (λ u. or-right _ _ (someOf-intro l p x u t)) (or-elim (eqb x y) _ m)
+
+pub someOf-elim : (l : List ℕ) (p : ℕ → Bool) → T (someOf l p) → (x : ℕ) × T (member x l) × T (p x)
+unfolding someOf
+someOf-elim [] p t = absurd t
+someOf-elim (y ∷ l) p t =
+    ⊎-elim (λ u. (y, or-left (eqb y y) _ (eqb-refl y), u)) (λ u. let (x, m, v) = someOf-elim l p u in (x, or-right (eqb x y) _ m, v))
+    (or-elim _ _ t)
+
+pub everyOf-elim : (l : List ℕ) (p : ℕ → Bool) → T (everyOf l p) → (x : ℕ) → T (member x l) → T (p x)
+unfolding everyOf someOf
+everyOf-elim [] p t x m = absurd m
+everyOf-elim (y ∷ l) p t x m =
+    ⊎-elim (λ e. subst (λ i. T (p i)) (sym (eqb→eq x y e)) (and-left _ _ t)) (λ u. everyOf-elim l p (and-right _ _ t) x u) (or-elim (eqb x y) _ m)

@@ -1,0 +1,10 @@
+pub mod Tests
+pub mod Theory
+pub mod Inference
+pub mod System
+pub mod Worklist
+pub mod Reading
+pub mod Plain
+pub mod Demands
+pub mod Verdict
+pub mod Circle
