@@ -1,13 +1,12 @@
 -- Laws of the tests, quantifiers and sums of specs/Tests.antt. Assumes nothing.
 use Prim.Native.Nat.{ℕ, zero, suc, _+_, _*_, _≤_, _<_}
-use native.Mathlib.Nat.{le-refl, le-step, not-suc-le-zero, le-of-suc-le-suc, add-zero, zero-add, add-assoc}
-use native.Mathlib.Omega.{arith}
+use native.Mathlib.Nat.{le-refl, le-step, not-suc-le-zero, le-of-suc-le-suc, lt-of-not-le}
 use mathlib.Core.Path.{_≡_, refl, sym, _∙_, ap, subst, fun-ext}
 use mathlib.Core.Logic.{_⊎_, inl, inr, ⊎-elim, _↔_}
 use mathlib.Core.Bool.{Bool, true, false, cond}
 use mathlib.Core.List.{List, [], _∷_, _++_}
 use lib.Arith.{lt-of-le-ne}
-use lib.Dec.{T, eqb, eqb→eq, eqb-refl, ltb}
+use lib.Dec.{T, leb, leb→le, le→leb, eqb, eqb→eq, eqb-refl}
 use lib.ListN.{length}
 use Rattle.logic.specs.Tests.{_and_, _or_, isnt, _implies_, every, some, everyOf, someOf, member, empty, distinct, total, weigh, count, upto, pick}
 
@@ -35,6 +34,25 @@ test-eq false false f g = refl
 pub cond-cases {ℓ} : {A : Type 0} (P : A → Type ℓ) (b : Bool) (x y : A) → (T b → P x) → ((T b → ⊥) → P y) → P (cond b x y)
 cond-cases P true x y f g = f tt
 cond-cases P false x y f g = g (λ t. t)
+
+pub cond-true : {A : Type 0} (b : Bool) (x y : A) → T b → cond b x y ≡ x
+cond-true b x y t = ap (λ c. cond c x y) (true-of b t)
+
+pub cond-false : {A : Type 0} (b : Bool) (x y : A) → (T b → ⊥) → cond b x y ≡ y
+cond-false b x y n = ap (λ c. cond c x y) (false-of b n)
+
+-- a number is at most another, or above it
+pub at-most : (a b : ℕ) → (a ≤ b) ⊎ (b < a)
+at-most a b = ⊎-elim (λ t. inl (leb→le a b t)) (λ n. inr (lt-of-not-le (λ h. n (le→leb a b h)))) (decide (leb a b))
+
+pub empty-nil : (l : List ℕ) → T (empty l) → l ≡ []
+unfolding empty
+empty-nil [] t = refl
+empty-nil (x ∷ l) t = absurd t
+
+pub nil-empty : (l : List ℕ) → l ≡ [] → T (empty l)
+unfolding empty
+nil-empty l e = subst (λ k. T (empty k)) (sym e) tt
 
 pub eq→eqb : (m n : ℕ) → m ≡ n → T (eqb m n)
 eq→eqb m n e = subst (λ k. T (eqb m k)) e (eqb-refl m)

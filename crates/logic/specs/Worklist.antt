@@ -14,6 +14,9 @@ pub record Outcome : Type 0 where
   pub pending : List ℕ
   pub spent : ℕ
 
+abbrev pub outcome : Bool → List ℕ → List ℕ → ℕ → Outcome
+outcome b done todo spent = record { finished = b; processed = done; pending = todo; spent = spent }
+
 abbrev pub logOf : Outcome → List ℕ
 logOf o = o .processed ++ o .pending
 
@@ -58,12 +61,11 @@ module _ (s : System) where
   -- "Lines are worked in log order. .. a line is worked if its price fits what is left; the first that doesn't stops the run.
   -- All worked: finished." The first number bounds the steps: as each costs at least 1, what is left of the budget is enough.
   unfoldable pub work : ℕ → ℕ → List ℕ → List ℕ → ℕ → Outcome
-  work zero budget done todo spent = record { finished = empty todo; processed = done; pending = todo; spent = spent }
-  work (suc n) budget done [] spent = record { finished = true; processed = done; pending = []; spent = spent }
+  work zero budget done todo spent = outcome (empty todo) done todo spent
+  work (suc n) budget done [] spent = outcome true done [] spent
   work (suc n) budget done (x ∷ xs) spent =
       let more = work n budget (done ++ (x ∷ [])) (process done x xs) (spent + costAfter done x) in
-      let stop : Outcome = record { finished = false; processed = done; pending = x ∷ xs; spent = spent } in
-      cond (leb (costAfter done x) (budget - spent)) more stop
+      cond (leb (costAfter done x) (budget - spent)) more (outcome false done (x ∷ xs) spent)
 
   -- what comes of a run from where it stands
   abbrev pub rest : ℕ → List ℕ → List ℕ → ℕ → Outcome
@@ -71,7 +73,7 @@ module _ (s : System) where
 
   -- "If Size exceeds it, the answer is stopped with 0 lines, 0 worked, 0 spent."
   abbrev pub unopened : Outcome
-  unopened = record { finished = false; processed = []; pending = []; spent = 0 }
+  unopened = outcome false [] [] 0
 
   unfoldable pub run : ℕ → Outcome
   run budget =
