@@ -6,3 +6,7 @@ pub mod Circle
 pub mod Derivations
 pub mod Runs
 pub mod Budgets
+pub mod Literals
+pub mod Coherence
+pub mod Candidates
+pub mod Readings

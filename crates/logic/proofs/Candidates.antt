@@ -1,0 +1,92 @@
+-- What is tried after a conclusion: its candidates, each with every tag. Assumes nothing.
+use Prim.Native.Nat.{ℕ, zero, suc, _+_, _*_, _/_, _%_, _≤_, _<_}
+use native.Mathlib.Omega.{arith}
+use mathlib.Core.Path.{_≡_, refl, sym, _∙_, ap, subst}
+use mathlib.Core.Logic.{_⊎_, inl, inr, ⊎-elim}
+use mathlib.Core.Bool.{Bool}
+use mathlib.Core.List.{List, [], _∷_, _++_, map}
+use lib.Dec.{T, eqb, eqb→eq}
+use Rattle.logic.specs.Tests.{_and_, _or_, isnt, member, upto, pick}
+use Rattle.logic.specs.Theory.{Theory, complement, isStrict, kindOf, headOf, bodyOf}
+use Rattle.logic.specs.Reading.{conclusion, visits, visited, heads, candidates, lines}
+use Rattle.logic.proofs.Lists.{member-nil, member-here, member-there, member-cons-elim, member-left, member-right, member-append, member-pick, member-pick-intro, member-upto, member-upto-intro}
+use Rattle.logic.proofs.Literals.{complement-complement, complement-below}
+
+member-map-intro : (f : ℕ → ℕ) (l : List ℕ) (x : ℕ) → T (member x l) → T (member (f x) (map f l))
+member-map-intro f [] x m = absurd (member-nil x m)
+member-map-intro f (y ∷ l) x m =
+    ⊎-elim (λ e. subst (λ z. T (member (f x) (f z ∷ map f l))) e (member-here (f x) (map f l)))
+    (λ u. member-there (f x) (f y) (map f l) (member-map-intro f l x u)) (member-cons-elim x y l m)
+
+member-map : (f : ℕ → ℕ) (l : List ℕ) (x : ℕ) → T (member x (map f l)) → (y : ℕ) × T (member y l) × (x ≡ f y)
+member-map f [] x m = absurd (member-nil x m)
+member-map f (y ∷ l) x m =
+    ⊎-elim (λ e. (y, member-here y l, e)) (λ u. let (z, v, e) = member-map f l x u in (z, member-there z y l v, e)) (member-cons-elim x (f y) (map f l) m)
+
+-- the conclusions about a list of literals: each with every tag
+pub member-lines-intro : (n : ℕ) (qs : List ℕ) (q t : ℕ) → T (member q qs) → t < n → T (member (conclusion n q t) (lines n qs))
+unfolding lines
+member-lines-intro n [] q t m h = absurd (member-nil q m)
+member-lines-intro n (p ∷ qs) q t m h =
+    ⊎-elim
+    (λ e. subst (λ z. T (member (conclusion n q t) (map (conclusion n z) (upto n) ++ lines n qs))) e
+    (member-left _ (map (conclusion n q) (upto n)) (lines n qs) (member-map-intro (conclusion n q) (upto n) t (member-upto-intro n t h))))
+    (λ u. member-right _ (map (conclusion n p) (upto n)) (lines n qs) (member-lines-intro n qs q t u h)) (member-cons-elim q p qs m)
+
+pub member-lines : (n : ℕ) (qs : List ℕ) (x : ℕ) → T (member x (lines n qs)) → (q : ℕ) × (t : ℕ) × T (member q qs) × (t < n) × (x ≡ conclusion n q t)
+unfolding lines
+member-lines n [] x m = absurd (member-nil x m)
+member-lines n (p ∷ qs) x m =
+    ⊎-elim (λ u. let (t, v, e) = member-map (conclusion n p) (upto n) x u in (p, t, member-here p qs, member-upto n t v, e))
+    (λ u. let (q, t, v, h, e) = member-lines n qs x u in (q, t, member-there q p qs v, h, e))
+    (member-append x (map (conclusion n p) (upto n)) (lines n qs) m)
+
+module _ (d : Theory) where
+  member-heads-intro : (rs : List ℕ) (r : ℕ) → T (member r rs) → (q : ℕ) → (headOf d r ≡ q) ⊎ (headOf d r ≡ complement q) → T (member q (heads d rs))
+  unfolding heads
+  member-heads-intro [] r m q e = absurd (member-nil r m)
+  member-heads-intro (s ∷ rs) r m q e =
+      ⊎-elim (λ i. ⊎-elim (λ f. here (ap (headOf d) (sym i) ∙ f)) (λ f. other (ap (headOf d) (sym i) ∙ f)) e)
+      (λ u. member-there q _ _ (member-there q _ _ (member-heads-intro rs r u q e))) (member-cons-elim r s rs m)
+    where
+      here : headOf d s ≡ q → T (member q (headOf d s ∷ complement (headOf d s) ∷ heads d rs))
+      here f = subst (λ z. T (member q (z ∷ complement (headOf d s) ∷ heads d rs))) (sym f) (member-here q _)
+
+      other : headOf d s ≡ complement q → T (member q (headOf d s ∷ complement (headOf d s) ∷ heads d rs))
+      other f =
+          member-there q (headOf d s) _
+          (subst (λ z. T (member q (z ∷ heads d rs))) (sym (ap complement f ∙ complement-complement q)) (member-here q (heads d rs)))
+
+  -- a literal is a candidate of a conclusion about it, about its complement, and about an antecedent of a rule visited for that
+  -- antecedent whose head is the literal or its complement
+  pub candidate-self : (f q : ℕ) → T (member q (candidates d f q))
+  candidate-self f q = member-here q _
+
+  pub candidate-complement : (f q : ℕ) → T (member q (candidates d f (complement q)))
+  candidate-complement f q =
+      member-there q (complement q) _
+      (subst (λ z. T (member q (z ∷ heads d (visited d f (complement q))))) (sym (complement-complement q)) (member-here q _))
+
+  pub candidate-head : (f q a r : ℕ) → r < d .rules → T (visits d f a r) → (headOf d r ≡ q) ⊎ (headOf d r ≡ complement q) → T (member q (candidates d f a))
+  candidate-head f q a r h v e =
+      member-there q a _ (member-there q (complement a) _
+      (member-heads-intro (visited d f a) r (member-pick-intro (upto (d .rules)) (visits d f a) r (member-upto-intro (d .rules) r h) v) q e))
+
+  heads-below : (b : ℕ) → ((r : ℕ) → r < d .rules → headOf d r < 2 * b) → (rs : List ℕ) → ((r : ℕ) → T (member r rs) → r < d .rules) → (q : ℕ)
+      → T (member q (heads d rs)) → q < 2 * b
+  unfolding heads
+  heads-below b f [] g q m = absurd (member-nil q m)
+  heads-below b f (r ∷ rs) g q m =
+      let k : headOf d r < 2 * b = f r (g r (member-here r rs)) in
+      ⊎-elim (λ e. subst (λ z. z < 2 * b) (sym e) k)
+      (λ u. ⊎-elim (λ e. subst (λ z. z < 2 * b) (sym e) (complement-below (headOf d r) b k))
+      (heads-below b f rs (λ s v. g s (member-there s r rs v)) q) (member-cons-elim q (complement (headOf d r)) (heads d rs) u))
+      (member-cons-elim q (headOf d r) _ m)
+
+  pub candidates-below : (b : ℕ) → ((r : ℕ) → r < d .rules → headOf d r < 2 * b) → (f p q : ℕ) → p < 2 * b → T (member q (candidates d f p)) → q < 2 * b
+  candidates-below b g f p q h m =
+      ⊎-elim (λ e. subst (λ z. z < 2 * b) (sym e) h)
+      (λ u. ⊎-elim (λ e. subst (λ z. z < 2 * b) (sym e) (complement-below p b h))
+      (heads-below b g (visited d f p) (λ r v. member-upto (d .rules) r (member-pick (upto (d .rules)) (visits d f p) r v .0)) q)
+      (member-cons-elim q (complement p) (heads d (visited d f p)) u))
+      (member-cons-elim q p _ m)
