@@ -12,19 +12,8 @@ use Rattle.logic.specs.Tests.{isnt, everyOf, member, empty, distinct, up
 use Rattle.logic.specs.Theory.{Theory, superior}
 use Rattle.logic.specs.Circle.{Leads, one, more, Circle, leadsInto, prune, circular}
 use Rattle.logic.proofs.Tests.{decide, cond-cases, and-intro, and-left, isnt-intro, some-elim, someOf-intro, someOf-elim, everyOf-elim}
-use Rattle.logic.proofs.Lists.{member-cons-elim, member-here, member-nil, member-pick, member-pick-intro, member-upto, member-upto-intro, distinct-upto}
+use Rattle.logic.proofs.Lists.{filled-elim, filled-intro, member-cons-elim, member-here, member-nil, member-pick, member-pick-intro, member-upto, member-upto-intro, distinct-upto}
 use Rattle.logic.proofs.Pigeon.{pigeon}
-
--- a list that is not empty has an element
-pub filled-elim : (l : List ℕ) → T (isnt (empty l)) → (x : ℕ) × T (member x l)
-unfolding isnt empty
-filled-elim [] t = absurd t
-filled-elim (x ∷ l) t = (x, member-here x l)
-
-pub filled-intro : (l : List ℕ) (x : ℕ) → T (member x l) → T (isnt (empty l))
-unfolding isnt empty
-filled-intro [] x m = absurd (member-nil x m)
-filled-intro (y ∷ l) x m = tt
 
 -- `pick` takes nothing in, and takes something out unless all pass
 pick-le : (l : List ℕ) (p : ℕ → Bool) → length (pick l p) ≤ length l

@@ -10,3 +10,5 @@ pub mod Literals
 pub mod Coherence
 pub mod Candidates
 pub mod Readings
+pub mod Bodies
+pub mod Prices

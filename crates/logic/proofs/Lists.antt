@@ -134,3 +134,14 @@ pick-append (x ∷ l) m p = go (p x) (pick-append l m p)
     go : (b : Bool) → pick (l ++ m) p ≡ pick l p ++ pick m p → cond b (x ∷ pick (l ++ m) p) (pick (l ++ m) p) ≡ cond b (x ∷ pick l p) (pick l p) ++ pick m p
     go true e = ap (x ∷_) e
     go false e = e
+
+-- a list that is not empty has an element
+pub filled-elim : (l : List ℕ) → T (isnt (empty l)) → (x : ℕ) × T (member x l)
+unfolding isnt empty
+filled-elim [] t = absurd t
+filled-elim (x ∷ l) t = (x, member-here x l)
+
+pub filled-intro : (l : List ℕ) (x : ℕ) → T (member x l) → T (isnt (empty l))
+unfolding isnt empty
+filled-intro [] x m = absurd (member-nil x m)
+filled-intro (y ∷ l) x m = tt

@@ -1,0 +1,34 @@
+-- Laws of the tests of a rule's antecedents, over the tag. Assumes nothing.
+use Prim.Native.Nat.{ℕ}
+use mathlib.Core.Path.{_≡_}
+use mathlib.Core.Bool.{Bool}
+use lib.Dec.{T}
+use Rattle.logic.specs.Tests.{isnt, member, empty, everyOf, someOf}
+use Rattle.logic.specs.Theory.{Theory, bodyOf}
+use Rattle.logic.specs.Inference.{allHave, oneHas}
+use Rattle.logic.proofs.Tests.{everyOf-intro, everyOf-elim, someOf-intro, someOf-elim}
+use Rattle.logic.proofs.Lists.{filled-elim}
+
+module _ (d : Theory) (h k : ℕ → ℕ → Bool) (t r : ℕ) where
+  -- what a rule's antecedents have for one test they have for another that has it for each of them
+  pub all-moves : ((a : ℕ) → T (member a (bodyOf d r)) → T (h a t) → T (k a t)) → T (allHave d h t r) → T (allHave d k t r)
+  unfolding allHave
+  all-moves f u = everyOf-intro (bodyOf d r) (λ a. k a t) (λ a m. f a m (everyOf-elim (bodyOf d r) (λ b. h b t) u a m))
+
+  pub one-moves : ((a : ℕ) → T (member a (bodyOf d r)) → T (h a t) → T (k a t)) → T (oneHas d h t r) → T (oneHas d k t r)
+  unfolding oneHas
+  one-moves f u = let (a, m, v) = someOf-elim (bodyOf d r) (λ b. h b t) u in someOf-intro (bodyOf d r) (λ b. k b t) a m (f a m v)
+
+-- not all antecedents have a tag where one has a tag that excludes it
+pub all-one : (d : Theory) (h : ℕ → ℕ → Bool) (t u r : ℕ) → ((a : ℕ) → T (h a t) → T (h a u) → ⊥) → T (allHave d h t r) → T (oneHas d h u r) → ⊥
+unfolding allHave oneHas
+all-one d h t u r f v w = let (a, m, z) = someOf-elim (bodyOf d r) (λ b. h b u) w in f a (everyOf-elim (bodyOf d r) (λ b. h b t) v a m) z
+
+-- of nothing, a rule with antecedents has all of no tag, and no rule has one
+pub all-nothing : (d : Theory) (h : ℕ → ℕ → Bool) (t r : ℕ) → ((a : ℕ) → T (h a t) → ⊥) → T (isnt (empty (bodyOf d r))) → T (allHave d h t r) → ⊥
+unfolding allHave
+all-nothing d h t r n e u = let (a, m) = filled-elim (bodyOf d r) e in n a (everyOf-elim (bodyOf d r) (λ b. h b t) u a m)
+
+pub one-nothing : (d : Theory) (h : ℕ → ℕ → Bool) (t r : ℕ) → ((a : ℕ) → T (h a t) → ⊥) → T (oneHas d h t r) → ⊥
+unfolding oneHas
+one-nothing d h t r n u = let (a, m, v) = someOf-elim (bodyOf d r) (λ b. h b t) u in n a v
