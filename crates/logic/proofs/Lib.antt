@@ -12,3 +12,4 @@ pub mod Candidates
 pub mod Readings
 pub mod Bodies
 pub mod Prices
+pub mod Plain

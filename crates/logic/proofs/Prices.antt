@@ -14,9 +14,12 @@ use Rattle.logic.specs.Inference.{allHave, oneHas}
 use Rattle.logic.specs.System.{System, held}
 use Rattle.logic.specs.Reading.{Reading, tags, familyOf, conclusion, visits, visited, decided, settles, names, naming, price, taggedBy, systemOf}
 use Rattle.logic.proofs.Tests.{decide, at-most, test-eq, and-left, and-right, or-left, or-right, or-elim, eq→eqb}
-use Rattle.logic.proofs.Lists.{member-nil, member-left, member-snoc, member-last, member-cons-elim, member-here, member-there}
+use Rattle.logic.proofs.Lists.{member-nil, member-left, member-snoc, member-last, member-cons-elim, member-here, member-there, distinct-apart}
 use Rattle.logic.proofs.Sums.{total-ext, total-le, total-add, total-const, total-zero, total-swap, total-grid, total-point, weigh-true, weigh-false, weigh-le, count-upto}
-use Rattle.logic.proofs.Coherence.{Coherent, coherent-total}
+use Rattle.logic.proofs.Derivations.{Lawful, derives-all-below}
+use Rattle.logic.proofs.Budgets.{Weighed}
+use Rattle.logic.proofs.Coherence.{Coherent, derivation-coherent, coherent-total}
+use Rattle.logic.proofs.Readings.{Rules, system-opposed}
 use Rattle.logic.proofs.Bodies.{all-moves, one-moves, all-nothing, one-nothing}
 use Rattle.logic.proofs.Literals.{join-div, join-mod, literal-half, tag-half, family-half}
 
@@ -134,7 +137,7 @@ module _ (d : Theory) where
   weight n h = total (2 * (n * (2 * d .atoms))) (λ x. weigh (h x) (slotCost n (x / 2))) + total n (pairsOf n h)
 
   -- what the weight never exceeds
-  pub heaviest : ℕ → ℕ
+  abbrev pub heaviest : ℕ → ℕ
   heaviest n = n * (2 * d .atoms + entries d) + (n - 1) * (2 * d .pairs)
 
   module _ (n : ℕ) (p : 0 < n) (h k : ℕ → Bool) (x : ℕ) (a : Adds h k x) where
@@ -278,5 +281,18 @@ module _ (d : Theory) where
       family f = weigh-mono (isnt (eqb f 0)) _ _ (le-trans (total-le (d .rules) _ (naming d) (λ r _. weigh-le _ _)) naming-bound)
 
   pub weight-bound : (n : ℕ) → 0 < n → (h : ℕ → Bool) → Coherent h → weight n h ≤ heaviest n
-  unfolding weight heaviest
+  unfolding weight
   weight-bound n p h c = omega (arith, coherent-total (n * (2 * d .atoms)) h (slotCost n) c, slots-bound n, pairs-bound n p h)
+
+-- the closure system of a reading is weighed
+pub reading-weighed : (m : Reading) → Rules m → (d : Theory) → Lawful (systemOf m d) → (most : ℕ) → size d + heaviest d (m .families) ≤ most → Weighed (systemOf m d) most
+unfolding systemOf
+reading-weighed m l d w most b =
+    record {
+      weight = weight d (m .families);
+      nothing = weight-nothing d (m .families);
+      growth = λ e x t u. cost-grows d (m .families) (l .tagged) (held e) (held (e ++ (x ∷ []))) x (held-adds e x (distinct-apart e x [] u))
+          (subst (λ k. x < k) (mul-assoc 2 (m .families) (2 * d .atoms)) (derives-all-below (systemOf m d) [] (e ++ (x ∷ [])) t x (member-last e x)));
+      limit = λ e t. let c : weight d (m .families) (held e) ≤ heaviest d (m .families) =
+          weight-bound d (m .families) (l .tagged) (held e) (derivation-coherent (systemOf m d) w (system-opposed m l d) e t) in omega arith;
+    }
