@@ -8,7 +8,7 @@ use mathlib.Core.List.{List, [], _∷_, _++_, map}
 use lib.Dec.{T, eqb, eqb→eq}
 use Rattle.logic.specs.Tests.{_and_, _or_, isnt, member, upto, pick}
 use Rattle.logic.specs.Theory.{Theory, complement, isStrict, kindOf, headOf, bodyOf}
-use Rattle.logic.specs.Reading.{conclusion, visits, visited, heads, candidates, lines}
+use Rattle.logic.specs.Reading.{conclusion, visits, visited, heads, candidates, withTags}
 use Rattle.logic.proofs.Lists.{member-nil, member-here, member-there, member-cons-elim, member-left, member-right, member-append, member-pick, member-pick-intro, member-upto, member-upto-intro}
 use Rattle.logic.proofs.Literals.{complement-complement, complement-below}
 
@@ -24,22 +24,22 @@ member-map f (y ∷ l) x m =
     ⊎-elim (λ e. (y, member-here y l, e)) (λ u. let (z, v, e) = member-map f l x u in (z, member-there z y l v, e)) (member-cons-elim x (f y) (map f l) m)
 
 -- the conclusions about a list of literals: each with every tag
-pub member-lines-intro : (n : ℕ) (qs : List ℕ) (q t : ℕ) → T (member q qs) → t < n → T (member (conclusion n q t) (lines n qs))
-unfolding lines
-member-lines-intro n [] q t m h = absurd (member-nil q m)
-member-lines-intro n (p ∷ qs) q t m h =
+pub member-withTags-intro : (n : ℕ) (qs : List ℕ) (q t : ℕ) → T (member q qs) → t < n → T (member (conclusion n q t) (withTags n qs))
+unfolding withTags
+member-withTags-intro n [] q t m h = absurd (member-nil q m)
+member-withTags-intro n (p ∷ qs) q t m h =
     ⊎-elim
-    (λ e. subst (λ z. T (member (conclusion n q t) (map (conclusion n z) (upto n) ++ lines n qs))) e
-    (member-left _ (map (conclusion n q) (upto n)) (lines n qs) (member-map-intro (conclusion n q) (upto n) t (member-upto-intro n t h))))
-    (λ u. member-right _ (map (conclusion n p) (upto n)) (lines n qs) (member-lines-intro n qs q t u h)) (member-cons-elim q p qs m)
+    (λ e. subst (λ z. T (member (conclusion n q t) (map (conclusion n z) (upto n) ++ withTags n qs))) e
+    (member-left _ (map (conclusion n q) (upto n)) (withTags n qs) (member-map-intro (conclusion n q) (upto n) t (member-upto-intro n t h))))
+    (λ u. member-right _ (map (conclusion n p) (upto n)) (withTags n qs) (member-withTags-intro n qs q t u h)) (member-cons-elim q p qs m)
 
-pub member-lines : (n : ℕ) (qs : List ℕ) (x : ℕ) → T (member x (lines n qs)) → (q : ℕ) × (t : ℕ) × T (member q qs) × (t < n) × (x ≡ conclusion n q t)
-unfolding lines
-member-lines n [] x m = absurd (member-nil x m)
-member-lines n (p ∷ qs) x m =
+pub member-withTags : (n : ℕ) (qs : List ℕ) (x : ℕ) → T (member x (withTags n qs)) → (q : ℕ) × (t : ℕ) × T (member q qs) × (t < n) × (x ≡ conclusion n q t)
+unfolding withTags
+member-withTags n [] x m = absurd (member-nil x m)
+member-withTags n (p ∷ qs) x m =
     ⊎-elim (λ u. let (t, v, e) = member-map (conclusion n p) (upto n) x u in (p, t, member-here p qs, member-upto n t v, e))
-    (λ u. let (q, t, v, h, e) = member-lines n qs x u in (q, t, member-there q p qs v, h, e))
-    (member-append x (map (conclusion n p) (upto n)) (lines n qs) m)
+    (λ u. let (q, t, v, h, e) = member-withTags n qs x u in (q, t, member-there q p qs v, h, e))
+    (member-append x (map (conclusion n p) (upto n)) (withTags n qs) m)
 
 module _ (d : Theory) where
   member-heads-intro : (rs : List ℕ) (r : ℕ) → T (member r rs) → (q : ℕ) → (headOf d r ≡ q) ⊎ (headOf d r ≡ complement q) → T (member q (heads d rs))

@@ -7,7 +7,7 @@ use mathlib.Core.Bool.{Bool, true, false}
 use mathlib.Core.List.{List, [], _∷_, _++_, append-nil}
 use lib.Dec.{T}
 use lib.ListN.{length}
-use Rattle.logic.specs.Tests.{member, distinct, total, weigh, count}
+use Rattle.logic.specs.Tests.{member, distinct, total, weigh, countBelow}
 use Rattle.logic.specs.Theory.{complement}
 use Rattle.logic.specs.System.{System, held, derivesFrom, derivation}
 use Rattle.logic.proofs.Lists.{member-snoc, member-nil, snoc-append}

@@ -2,7 +2,7 @@ pub mod Tests
 pub mod Lists
 pub mod Sums
 pub mod Pigeon
-pub mod Circle
+pub mod Cycle
 pub mod Derivations
 pub mod Runs
 pub mod Budgets
@@ -11,5 +11,5 @@ pub mod Coherence
 pub mod Candidates
 pub mod Readings
 pub mod Bodies
-pub mod Prices
+pub mod Costs
 pub mod Plain

@@ -9,7 +9,7 @@ use mathlib.Core.List.{List, [], _∷_, _++_, append-assoc, append-nil}
 use lib.Dec.{T, eqb, eqb→eq, eqb-refl}
 use lib.ListN.{length}
 use Rattle.logic.specs.Tests.{_and_, _or_, isnt, everyOf, someOf, member, empty, distinct, upto, pick}
-use Rattle.logic.proofs.Tests.{decide, cond-cases, eq→eqb, and-intro, and-left, and-right, or-left, or-right, or-elim, isnt-intro, isnt-elim, lt-suc-cases, test-eq}
+use Rattle.logic.proofs.Tests.{test-cases, cond-cases, eq→eqb, and-intro, and-left, and-right, or-left, or-right, or-elim, isnt-intro, isnt-elim, lt-suc-cases, test-eq}
 
 pub member-cons-elim : (x y : ℕ) (l : List ℕ) → T (member x (y ∷ l)) → (x ≡ y) ⊎ T (member x l)
 unfolding someOf

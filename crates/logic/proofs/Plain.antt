@@ -23,7 +23,7 @@ use Rattle.logic.proofs.Derivations.{Lawful, derives-all-below}
 use Rattle.logic.proofs.Budgets.{Weighed, demands}
 use Rattle.logic.proofs.Coherence.{Coherent, derivation-coherent, coherent-length}
 use Rattle.logic.proofs.Readings.{Rules, system-lawful, system-opposed}
-use Rattle.logic.proofs.Prices.{heaviest, reading-weighed}
+use Rattle.logic.proofs.Costs.{heaviest, reading-weighed}
 
 module _ (d : Theory) where
   strict-kind : (r q : ℕ) → T (strictFor d r q) → T (isStrict (kindOf d r))

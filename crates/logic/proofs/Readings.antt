@@ -9,10 +9,10 @@ use lib.Dec.{T}
 use Rattle.logic.specs.Tests.{member, every}
 use Rattle.logic.specs.Theory.{Theory, complement, headOf}
 use Rattle.logic.specs.System.{System}
-use Rattle.logic.specs.Reading.{Reading, tags, familyOf, conclusion, candidates, lines, taggedBy, systemOf}
+use Rattle.logic.specs.Reading.{Reading, tags, familyOf, conclusion, candidates, withTags, taggedBy, systemOf}
 use Rattle.logic.proofs.Derivations.{Lawful}
 use Rattle.logic.proofs.Coherence.{Coherent, Opposed}
-use Rattle.logic.proofs.Candidates.{member-lines, member-lines-intro, candidates-below}
+use Rattle.logic.proofs.Candidates.{member-withTags, member-withTags-intro, candidates-below}
 use Rattle.logic.proofs.Literals.{complement-half, complement-bit, join-div, join-mod, join-split, join-below, split-below, literal-half, tag-half}
 
 -- What is asked of a reading. Local: what follows is monotone in, and depends on no more than, the conclusions that have the
@@ -40,7 +40,7 @@ module _ (m : Reading) (l : Rules m) (d : Theory) where
       record {
         local = λ h k x f t. l .local d (taggedBy (tags m) h) (taggedBy (tags m) k) (x / tags m) (x % tags m)
             (λ a u b c. f (conclusion (tags m) a u) (tried-there x a u b c)) t;
-        inside = λ x y b t. let (q, u, v, h, e) = member-lines (tags m) _ y t in
+        inside = λ x y b t. let (q, u, v, h, e) = member-withTags (tags m) _ y t in
             subst (λ z. z < tags m * (2 * d .atoms)) (sym e) (join-below (tags m) (2 * d .atoms) q u h
             (candidates-below d (d .atoms) below _ (x / tags m) q (split-below (tags m) (2 * d .atoms) x positive b) v));
         positive = λ h k x. omega arith;
@@ -51,7 +51,7 @@ module _ (m : Reading) (l : Rules m) (d : Theory) where
           → T (member x (systemOf m d .tried (conclusion (tags m) a u)))
       tried-there x a u b c =
           subst (λ z. T (member z (systemOf m d .tried (conclusion (tags m) a u)))) (join-split (tags m) x)
-          (member-lines-intro (tags m) _ (x / tags m) (x % tags m)
+          (member-withTags-intro (tags m) _ (x / tags m) (x % tags m)
           (subst (λ v. T (member (x / tags m) (candidates d (familyOf v) (conclusion (tags m) a u / tags m)))) (sym (join-mod (tags m) a u b))
           (subst (λ v. T (member (x / tags m) (candidates d (familyOf u) v))) (sym (join-div (tags m) a u b)) c)) (mod-lt x positive))
 

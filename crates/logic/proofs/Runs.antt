@@ -9,8 +9,8 @@ use mathlib.Core.List.{List, [], _∷_, _++_, append-assoc, append-nil, IsPrefix
 use lib.Dec.{T, leb, leb→le, le→leb}
 use Rattle.logic.specs.Tests.{_and_, isnt, member, empty, distinct, upto, pick}
 use Rattle.logic.specs.System.{System, held, derivesFrom, derivation, Derivable}
-use Rattle.logic.specs.Worklist.{Outcome, outcome, logOf, put, initial, grow, process, costAfter, costsFrom, costs, work, rest, unopened, run}
-use Rattle.logic.proofs.Tests.{decide, cond-true, cond-false, at-most, and-intro, and-left, and-right, isnt-intro, isnt-elim}
+use Rattle.logic.specs.Worklist.{Outcome, outcome, logOf, put, initial, grow, process, costAfter, costsFrom, costs, proceed, rest, unstarted, run}
+use Rattle.logic.proofs.Tests.{test-cases, cond-true, cond-false, at-most, and-intro, and-left, and-right, isnt-intro, isnt-elim}
 use Rattle.logic.proofs.Lists.{member-nil, member-here, member-there, member-left, member-right, member-cons-elim, member-append, member-snoc, member-last, snoc-append, distinct-snoc, distinct-pick, distinct-upto, member-pick, member-pick-intro, member-upto, member-upto-intro}
 use Rattle.logic.proofs.Derivations.{Lawful, monotone, derives-next, derivation-snoc, derives-all-below, closed-holds}
 
@@ -69,60 +69,60 @@ module _ (s : System) where
   costs-snoc l x = costs-from-snoc [] l x
 
   -- one step of a run
-  pub work-done : (n budget : ℕ) (done : List ℕ) (spent : ℕ) → work s n budget done [] spent ≡ outcome true done [] spent
-  unfolding work empty
-  work-done zero budget done spent = refl
-  work-done (suc n) budget done spent = refl
+  pub proceed-done : (n budget : ℕ) (done : List ℕ) (spent : ℕ) → proceed s n budget done [] spent ≡ outcome true done [] spent
+  unfolding proceed empty
+  proceed-done zero budget done spent = refl
+  proceed-done (suc n) budget done spent = refl
 
-  pub work-zero : (budget : ℕ) (done : List ℕ) (x : ℕ) (xs : List ℕ) (spent : ℕ) → work s 0 budget done (x ∷ xs) spent ≡ outcome false done (x ∷ xs) spent
-  unfolding work empty
-  work-zero budget done x xs spent = refl
+  pub proceed-zero : (budget : ℕ) (done : List ℕ) (x : ℕ) (xs : List ℕ) (spent : ℕ) → proceed s 0 budget done (x ∷ xs) spent ≡ outcome false done (x ∷ xs) spent
+  unfolding proceed empty
+  proceed-zero budget done x xs spent = refl
 
-  pub work-steps : (n budget : ℕ) (done : List ℕ) (x : ℕ) (xs : List ℕ) (spent : ℕ) → costAfter s done x ≤ budget - spent
-      → work s (suc n) budget done (x ∷ xs) spent ≡ work s n budget (done ++ (x ∷ [])) (process s done x xs) (spent + costAfter s done x)
-  unfolding work
-  work-steps n budget done x xs spent h = cond-true (leb (costAfter s done x) (budget - spent)) _ _ (le→leb _ _ h)
+  pub proceed-steps : (n budget : ℕ) (done : List ℕ) (x : ℕ) (xs : List ℕ) (spent : ℕ) → costAfter s done x ≤ budget - spent
+      → proceed s (suc n) budget done (x ∷ xs) spent ≡ proceed s n budget (done ++ (x ∷ [])) (process s done x xs) (spent + costAfter s done x)
+  unfolding proceed
+  proceed-steps n budget done x xs spent h = cond-true (leb (costAfter s done x) (budget - spent)) _ _ (le→leb _ _ h)
 
-  pub work-stays : (n budget : ℕ) (done : List ℕ) (x : ℕ) (xs : List ℕ) (spent : ℕ) → budget - spent < costAfter s done x
-      → work s n budget done (x ∷ xs) spent ≡ outcome false done (x ∷ xs) spent
-  unfolding work
-  work-stays zero budget done x xs spent h = work-zero budget done x xs spent
-  work-stays (suc n) budget done x xs spent h =
+  pub proceed-stays : (n budget : ℕ) (done : List ℕ) (x : ℕ) (xs : List ℕ) (spent : ℕ) → budget - spent < costAfter s done x
+      → proceed s n budget done (x ∷ xs) spent ≡ outcome false done (x ∷ xs) spent
+  unfolding proceed
+  proceed-stays zero budget done x xs spent h = proceed-zero budget done x xs spent
+  proceed-stays (suc n) budget done x xs spent h =
       cond-false (leb (costAfter s done x) (budget - spent)) _ _ (λ t. not-le-of-lt h (leb→le _ _ t))
 
   -- what holds where a run can go no further, and holds before a step if it holds after it, holds of a run
-  pub work-cases {ℓ} : (Q : List ℕ → List ℕ → ℕ → Outcome → Type ℓ) (budget : ℕ)
+  pub proceed-cases {ℓ} : (Q : List ℕ → List ℕ → ℕ → Outcome → Type ℓ) (budget : ℕ)
       → ((b : Bool) (done todo : List ℕ) (spent : ℕ) → b ≡ empty todo → Q done todo spent (outcome b done todo spent))
       → ((done : List ℕ) (x : ℕ) (xs : List ℕ) (spent : ℕ) (o : Outcome) → costAfter s done x ≤ budget - spent
       → Q (done ++ (x ∷ [])) (process s done x xs) (spent + costAfter s done x) o → Q done (x ∷ xs) spent o)
-      → (n : ℕ) (done todo : List ℕ) (spent : ℕ) → Q done todo spent (work s n budget done todo spent)
+      → (n : ℕ) (done todo : List ℕ) (spent : ℕ) → Q done todo spent (proceed s n budget done todo spent)
   unfolding empty
-  work-cases Q budget end step zero done [] spent = subst (Q done [] spent) (sym (work-done 0 budget done spent)) (end true done [] spent refl)
-  work-cases Q budget end step zero done (x ∷ xs) spent =
-      subst (Q done (x ∷ xs) spent) (sym (work-zero budget done x xs spent)) (end false done (x ∷ xs) spent refl)
-  work-cases Q budget end step (suc n) done [] spent =
-      subst (Q done [] spent) (sym (work-done (suc n) budget done spent)) (end true done [] spent refl)
-  work-cases Q budget end step (suc n) done (x ∷ xs) spent =
+  proceed-cases Q budget end step zero done [] spent = subst (Q done [] spent) (sym (proceed-done 0 budget done spent)) (end true done [] spent refl)
+  proceed-cases Q budget end step zero done (x ∷ xs) spent =
+      subst (Q done (x ∷ xs) spent) (sym (proceed-zero budget done x xs spent)) (end false done (x ∷ xs) spent refl)
+  proceed-cases Q budget end step (suc n) done [] spent =
+      subst (Q done [] spent) (sym (proceed-done (suc n) budget done spent)) (end true done [] spent refl)
+  proceed-cases Q budget end step (suc n) done (x ∷ xs) spent =
       ⊎-elim
-      (λ h. subst (Q done (x ∷ xs) spent) (sym (work-steps n budget done x xs spent h))
-      (step done x xs spent _ h (work-cases Q budget end step n _ _ _)))
-      (λ h. subst (Q done (x ∷ xs) spent) (sym (work-stays (suc n) budget done x xs spent h)) (end false done (x ∷ xs) spent refl))
+      (λ h. subst (Q done (x ∷ xs) spent) (sym (proceed-steps n budget done x xs spent h))
+      (step done x xs spent _ h (proceed-cases Q budget end step n _ _ _)))
+      (λ h. subst (Q done (x ∷ xs) spent) (sym (proceed-stays (suc n) budget done x xs spent h)) (end false done (x ∷ xs) spent refl))
       (at-most (costAfter s done x) (budget - spent))
 
   -- what each step keeps, a run keeps
-  pub work-keeps {ℓ} : (P : List ℕ → List ℕ → ℕ → Type ℓ) (budget : ℕ)
+  pub proceed-keeps {ℓ} : (P : List ℕ → List ℕ → ℕ → Type ℓ) (budget : ℕ)
       → ((done : List ℕ) (x : ℕ) (xs : List ℕ) (spent : ℕ) → costAfter s done x ≤ budget - spent → P done (x ∷ xs) spent
       → P (done ++ (x ∷ [])) (process s done x xs) (spent + costAfter s done x))
       → (n : ℕ) (done todo : List ℕ) (spent : ℕ) → P done todo spent
-      → P (work s n budget done todo spent .processed) (work s n budget done todo spent .pending) (work s n budget done todo spent .spent)
-  work-keeps P budget step =
-      work-cases (λ done todo spent o. P done todo spent → P (o .processed) (o .pending) (o .spent)) budget (λ b done todo spent e p. p)
+      → P (proceed s n budget done todo spent .processed) (proceed s n budget done todo spent .pending) (proceed s n budget done todo spent .spent)
+  proceed-keeps P budget step =
+      proceed-cases (λ done todo spent o. P done todo spent → P (o .processed) (o .pending) (o .spent)) budget (λ b done todo spent e p. p)
       (λ done x xs spent o h q p. q (step done x xs spent h p))
 
   -- finished exactly if nothing is pending
-  pub work-finished : (n budget : ℕ) (done todo : List ℕ) (spent : ℕ)
-      → work s n budget done todo spent .finished ≡ empty (work s n budget done todo spent .pending)
-  work-finished n budget = work-cases (λ done todo spent o. o .finished ≡ empty (o .pending)) budget (λ b done todo spent e. e) (λ done x xs spent o h q. q) n
+  pub proceed-finished : (n budget : ℕ) (done todo : List ℕ) (spent : ℕ)
+      → proceed s n budget done todo spent .finished ≡ empty (proceed s n budget done todo spent .pending)
+  proceed-finished n budget = proceed-cases (λ done todo spent o. o .finished ≡ empty (o .pending)) budget (λ b done todo spent e. e) (λ done x xs spent o h q. q) n
 
 module _ (s : System) (w : Lawful s) where
   Good : List ℕ → List ℕ → Type 0
@@ -157,7 +157,7 @@ module _ (s : System) (w : Lawful s) where
       written : T (member c (done ++ put (s .infers (held done) c and isnt (member c (done ++ todo))) todo c))
       written =
           put-holds _ done todo c
-          (λ n. ⊎-elim (λ u. u) (λ v. absurd (n (and-intro _ _ t (isnt-intro _ v)))) (decide (member c (done ++ todo))))
+          (λ n. ⊎-elim (λ u. u) (λ v. absurd (n (and-intro _ _ t (isnt-intro _ v)))) (test-cases (member c (done ++ todo))))
 
       here : c ≡ y → T (member c (done ++ grow s (held done) done (put (s .infers (held done) y and isnt (member y (done ++ todo))) todo y) cs))
       here e =
@@ -201,7 +201,7 @@ module _ (s : System) (w : Lawful s) where
           (subst (λ l. T (derivation s l)) (sym same) (k .derives), subst (λ l. T (distinct l)) (sym same) (k .once))
 
       closed′ : (z : ℕ) → z < s .conclusions → T (s .infers (held now) z) → T (member z (now ++ process s done x xs))
-      closed′ z b t = ⊎-elim (λ m. grow-holds now xs (s .tried x) z m t) untried (decide (member z (s .tried x)))
+      closed′ z b t = ⊎-elim (λ m. grow-holds now xs (s .tried x) z m t) untried (test-cases (member z (s .tried x)))
         where
           untried : (T (member z (s .tried x)) → ⊥) → T (member z (now ++ process s done x xs))
           untried n =

@@ -8,8 +8,8 @@ use mathlib.Core.Bool.{Bool, true, false, cond}
 use mathlib.Core.List.{List, [], _∷_, _++_}
 use lib.Dec.{T, eqb, eqb→eq, eqb-refl}
 use lib.ListN.{length, length-append}
-use Rattle.logic.specs.Tests.{_and_, _or_, isnt, everyOf, someOf, member, distinct, total, weigh, count, upto, pick}
-use Rattle.logic.proofs.Tests.{decide, true-of, false-of, cond-cases, eq→eqb, and-left, and-right, isnt-elim, lt-suc-cases}
+use Rattle.logic.specs.Tests.{_and_, _or_, isnt, everyOf, someOf, member, distinct, total, weigh, countBelow, upto, pick}
+use Rattle.logic.proofs.Tests.{test-cases, true-of, false-of, cond-cases, eq→eqb, and-left, and-right, isnt-elim, lt-suc-cases}
 use Rattle.logic.proofs.Lists.{member-here, member-there, member-cons-elim, member-nil, pick-append}
 
 pub total-ext : (n : ℕ) (f g : ℕ → ℕ) → ((k : ℕ) → k < n → f k ≡ g k) → total n f ≡ total n g
@@ -90,7 +90,7 @@ unfolding weigh
 weigh-le true n = le-refl n
 weigh-le false n = omega arith
 
-pub count-upto : (n : ℕ) (p : ℕ → Bool) → length (pick (upto n) p) ≡ count n p
+pub count-upto : (n : ℕ) (p : ℕ → Bool) → length (pick (upto n) p) ≡ countBelow n p
 unfolding total upto pick
 count-upto zero p = refl
 count-upto (suc n) p = ap length (pick-append (upto n) (n ∷ []) p) ∙ length-append (pick (upto n) p) _ ∙ ap₂ _+_ (count-upto n p) (one (p n))

@@ -8,12 +8,12 @@ use mathlib.Core.List.{List, [], _∷_, _++_}
 use lib.Arith.{lt-of-le-ne}
 use lib.Dec.{T, leb, leb→le, le→leb, eqb, eqb→eq, eqb-refl}
 use lib.ListN.{length}
-use Rattle.logic.specs.Tests.{_and_, _or_, isnt, _implies_, every, some, everyOf, someOf, member, empty, distinct, total, weigh, count, upto, pick}
+use Rattle.logic.specs.Tests.{_and_, _or_, isnt, _implies_, every, some, everyOf, someOf, member, empty, distinct, total, weigh, countBelow, upto, pick}
 
 -- a test passes or does not
-pub decide : (b : Bool) → T b ⊎ (T b → ⊥)
-decide true = inl tt
-decide false = inr (λ t. t)
+pub test-cases : (b : Bool) → T b ⊎ (T b → ⊥)
+test-cases true = inl tt
+test-cases false = inr (λ t. t)
 
 pub true-of : (b : Bool) → T b → b ≡ true
 true-of true t = refl
@@ -43,7 +43,7 @@ cond-false b x y n = ap (λ c. cond c x y) (false-of b n)
 
 -- a number is at most another, or above it
 pub at-most : (a b : ℕ) → (a ≤ b) ⊎ (b < a)
-at-most a b = ⊎-elim (λ t. inl (leb→le a b t)) (λ n. inr (lt-of-not-le (λ h. n (le→leb a b h)))) (decide (leb a b))
+at-most a b = ⊎-elim (λ t. inl (leb→le a b t)) (λ n. inr (lt-of-not-le (λ h. n (le→leb a b h)))) (test-cases (leb a b))
 
 pub empty-nil : (l : List ℕ) → T (empty l) → l ≡ []
 unfolding empty
@@ -98,7 +98,7 @@ isnt-elim true t u = t
 isnt-elim false t u = u
 
 pub implies-intro : (a b : Bool) → (T a → T b) → T (a implies b)
-implies-intro a b f = ⊎-elim (λ t. or-right (isnt a) b (f t)) (λ n. or-left (isnt a) b (isnt-intro a n)) (decide a)
+implies-intro a b f = ⊎-elim (λ t. or-right (isnt a) b (f t)) (λ n. or-left (isnt a) b (isnt-intro a n)) (test-cases a)
 
 pub implies-elim : (a b : Bool) → T (a implies b) → T a → T b
 implies-elim a b t u = ⊎-elim (λ n. absurd (isnt-elim a n u)) (λ v. v) (or-elim (isnt a) b t)
@@ -106,7 +106,7 @@ implies-elim a b t u = ⊎-elim (λ n. absurd (isnt-elim a n u)) (λ v. v) (or-e
 -- a number below suc n is below n, or is n
 pub lt-suc-cases : (k n : ℕ) → k < suc n → (k < n) ⊎ (k ≡ n)
 lt-suc-cases k n h =
-    ⊎-elim (λ t. inr (eqb→eq k n t)) (λ no-eq. inl (lt-of-le-ne (le-of-suc-le-suc h) (λ e. no-eq (eq→eqb k n e)))) (decide (eqb k n))
+    ⊎-elim (λ t. inr (eqb→eq k n t)) (λ no-eq. inl (lt-of-le-ne (le-of-suc-le-suc h) (λ e. no-eq (eq→eqb k n e)))) (test-cases (eqb k n))
 
 pub every-intro : (n : ℕ) (p : ℕ → Bool) → ((k : ℕ) → k < n → T (p k)) → T (every n p)
 unfolding every

@@ -7,4 +7,4 @@ pub mod Reading
 pub mod Plain
 pub mod Demands
 pub mod Verdict
-pub mod Circle
+pub mod Cycle

@@ -5,7 +5,7 @@ use mathlib.Core.Bool.{Bool, cond}
 use mathlib.Core.List.{List, [], _∷_, _++_, map}
 use lib.Dec.{eqb}
 use lib.ListN
-use Rattle.logic.specs.Tests.{_and_, _or_, isnt, member, empty, total, weigh, count, upto, pick}
+use Rattle.logic.specs.Tests.{_and_, _or_, isnt, member, empty, total, weigh, countBelow, upto, pick}
 use Rattle.logic.specs.Theory.{Theory, Pair, complement, isStrict, kindOf, headOf, bodyOf, size}
 use Rattle.logic.specs.Inference.{allHave, oneHas}
 use Rattle.logic.specs.System.{System}
@@ -47,27 +47,27 @@ module _ (d : Theory) where
   decided f holds r = allHave d holds (2 * f) r or oneHas d holds (2 * f + 1) r
 
   -- "A rule with antecedents is settled by the first worked line after which" it is decided.
-  unfoldable pub settles : ℕ → (ℕ → ℕ → Bool) → (ℕ → ℕ → Bool) → ℕ → Bool
-  settles f before after r = isnt (empty (bodyOf d r)) and decided f after r and isnt (decided f before r)
+  unfoldable pub decides : ℕ → (ℕ → ℕ → Bool) → (ℕ → ℕ → Bool) → ℕ → Bool
+  decides f before after r = isnt (empty (bodyOf d r)) and decided f after r and isnt (decided f before r)
 
   -- "the number of pairs naming that rule"
   abbrev pub names : Pair → ℕ → Bool
   names p r = eqb (p .stronger) r or eqb (p .weaker) r
 
   abbrev pub naming : ℕ → ℕ
-  naming r = count (d .pairs) (λ i. names (d .pair i) r)
+  naming r = countBelow (d .pairs) (λ i. names (d .pair i) r)
 
   -- "A line costs 1, plus 1 for each visited rule, plus, for a ∂ line, for each rule that it settles, the number of pairs naming
   -- that rule."
-  abbrev pub price : ℕ → ℕ → (ℕ → ℕ → Bool) → (ℕ → ℕ → Bool) → ℕ
-  price f p before after =
+  abbrev pub costOf : ℕ → ℕ → (ℕ → ℕ → Bool) → (ℕ → ℕ → Bool) → ℕ
+  costOf f p before after =
       1 + ListN.length (visited f p)
-      + weigh (isnt (eqb f 0)) (total (d .rules) (λ r. weigh (settles f before after r) (naming r)))
+      + weigh (isnt (eqb f 0)) (total (d .rules) (λ r. weigh (decides f before after r) (naming r)))
 
 -- "For each candidate, tags 0 to 3 in order"
-unfoldable pub lines : ℕ → List ℕ → List ℕ
-lines n [] = []
-lines n (q ∷ qs) = map (conclusion n q) (upto n) ++ lines n qs
+unfoldable pub withTags : ℕ → List ℕ → List ℕ
+withTags n [] = []
+withTags n (q ∷ qs) = map (conclusion n q) (upto n) ++ withTags n qs
 
 -- a test of conclusions, as one of literals and tags
 abbrev pub taggedBy : ℕ → (ℕ → Bool) → ℕ → ℕ → Bool
@@ -78,8 +78,8 @@ systemOf m d =
     record {
       conclusions = tags m * (2 * d .atoms);
       infers = λ h x. m .infer d (taggedBy (tags m) h) (x / tags m) (x % tags m);
-      tried = λ x. lines (tags m) (candidates d (familyOf (x % tags m)) (x / tags m));
+      tried = λ x. withTags (tags m) (candidates d (familyOf (x % tags m)) (x / tags m));
       cost = λ before after x.
-          price d (familyOf (x % tags m)) (x / tags m) (taggedBy (tags m) before) (taggedBy (tags m) after);
+          costOf d (familyOf (x % tags m)) (x / tags m) (taggedBy (tags m) before) (taggedBy (tags m) after);
       start = size d;
     }

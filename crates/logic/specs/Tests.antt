@@ -61,8 +61,8 @@ total (suc n) f = total n f + f n
 unfoldable pub weigh : Bool → ℕ → ℕ
 weigh b n = cond b n 0
 
-abbrev pub count : ℕ → (ℕ → Bool) → ℕ
-count n p = total n (λ k. weigh (p k) 1)
+abbrev pub countBelow : ℕ → (ℕ → Bool) → ℕ
+countBelow n p = total n (λ k. weigh (p k) 1)
 
 -- the numbers below n, rising; the elements of a list at which a test passes, in its order
 unfoldable pub upto : ℕ → List ℕ

@@ -60,22 +60,22 @@ module _ (s : System) where
 
   -- "Lines are worked in log order. .. a line is worked if its price fits what is left; the first that doesn't stops the run.
   -- All worked: finished." The first number bounds the steps: as each costs at least 1, what is left of the budget is enough.
-  unfoldable pub work : ℕ → ℕ → List ℕ → List ℕ → ℕ → Outcome
-  work zero budget done todo spent = outcome (empty todo) done todo spent
-  work (suc n) budget done [] spent = outcome true done [] spent
-  work (suc n) budget done (x ∷ xs) spent =
-      let more = work n budget (done ++ (x ∷ [])) (process done x xs) (spent + costAfter done x) in
+  unfoldable pub proceed : ℕ → ℕ → List ℕ → List ℕ → ℕ → Outcome
+  proceed zero budget done todo spent = outcome (empty todo) done todo spent
+  proceed (suc n) budget done [] spent = outcome true done [] spent
+  proceed (suc n) budget done (x ∷ xs) spent =
+      let more = proceed n budget (done ++ (x ∷ [])) (process done x xs) (spent + costAfter done x) in
       cond (leb (costAfter done x) (budget - spent)) more (outcome false done (x ∷ xs) spent)
 
   -- what comes of a run from where it stands
   abbrev pub rest : ℕ → List ℕ → List ℕ → ℕ → Outcome
-  rest budget done todo spent = work (budget - spent) budget done todo spent
+  rest budget done todo spent = proceed (budget - spent) budget done todo spent
 
   -- "If Size exceeds it, the answer is stopped with 0 lines, 0 worked, 0 spent."
-  abbrev pub unopened : Outcome
-  unopened = outcome false [] [] 0
+  abbrev pub unstarted : Outcome
+  unstarted = outcome false [] [] 0
 
   unfoldable pub run : ℕ → Outcome
   run budget =
-      let opened = rest budget [] initial (s .start) in
-      cond (leb (s .start) budget) opened unopened
+      let started = rest budget [] initial (s .start) in
+      cond (leb (s .start) budget) started unstarted

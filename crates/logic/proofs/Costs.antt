@@ -8,12 +8,12 @@ use mathlib.Core.Bool.{Bool, true, false, cond}
 use mathlib.Core.List.{List, [], _∷_, _++_}
 use lib.Dec.{T, eqb, eqb→eq, eqb-refl, eqb·suc-zero}
 use lib.ListN.{length}
-use Rattle.logic.specs.Tests.{_and_, _or_, isnt, someOf, member, empty, distinct, total, weigh, count}
+use Rattle.logic.specs.Tests.{_and_, _or_, isnt, someOf, member, empty, distinct, total, weigh, countBelow}
 use Rattle.logic.specs.Theory.{Theory, bodyOf, entries, size}
 use Rattle.logic.specs.Inference.{allHave, oneHas}
 use Rattle.logic.specs.System.{System, held}
-use Rattle.logic.specs.Reading.{Reading, tags, familyOf, conclusion, visits, visited, decided, settles, names, naming, price, taggedBy, systemOf}
-use Rattle.logic.proofs.Tests.{decide, at-most, test-eq, and-left, and-right, or-left, or-right, or-elim, eq→eqb}
+use Rattle.logic.specs.Reading.{Reading, tags, familyOf, conclusion, visits, visited, decided, decides, names, naming, costOf, taggedBy, systemOf}
+use Rattle.logic.proofs.Tests.{test-cases, at-most, test-eq, and-left, and-right, or-left, or-right, or-elim, eq→eqb}
 use Rattle.logic.proofs.Lists.{member-nil, member-left, member-snoc, member-last, member-cons-elim, member-here, member-there, distinct-apart}
 use Rattle.logic.proofs.Sums.{total-ext, total-le, total-add, total-const, total-zero, total-swap, total-grid, total-point, weigh-true, weigh-false, weigh-le, count-upto}
 use Rattle.logic.proofs.Derivations.{Lawful, derives-all-below}
@@ -39,7 +39,7 @@ held-adds l x n =
 
 adds-more : (h k : ℕ → Bool) (x : ℕ) → Adds h k x → (y : ℕ) → T (h y) → T (k y)
 adds-more h k x a y t =
-    ⊎-elim (λ e. subst (λ z. T (k z)) (sym (eqb→eq y x e)) (a .has)) (λ o. subst T (sym (a .same y (λ e. o (eq→eqb y x e)))) t) (decide (eqb y x))
+    ⊎-elim (λ e. subst (λ z. T (k z)) (sym (eqb→eq y x e)) (a .has)) (λ o. subst T (sym (a .same y (λ e. o (eq→eqb y x e)))) t) (test-cases (eqb y x))
 
 -- weights
 weigh-mono : (a : Bool) (m n : ℕ) → m ≤ n → weigh a m ≤ weigh a n
@@ -82,7 +82,7 @@ total-later (suc n) c =
     omega arith
 
 -- one number is counted once, the numbers of a list at most as often as the list is long
-count-one : (n x : ℕ) → count n (λ k. eqb x k) ≤ 1
+count-one : (n x : ℕ) → countBelow n (λ k. eqb x k) ≤ 1
 count-one n x = ⊎-elim inside outside (at-most (suc x) n)
   where
     zeros : total n (λ _. 0) ≡ 0
@@ -91,39 +91,39 @@ count-one n x = ⊎-elim inside outside (at-most (suc x) n)
     apart : (k : ℕ) → (k ≡ x → ⊥) → weigh (eqb x k) 1 ≡ 0
     apart k o = weigh-false (eqb x k) 1 (λ t. o (sym (eqb→eq x k t)))
 
-    inside : x < n → count n (λ k. eqb x k) ≤ 1
+    inside : x < n → countBelow n (λ k. eqb x k) ≤ 1
     inside h =
-        let e : count n (λ k. eqb x k) ≡ total n (λ _. 0) + 1 =
+        let e : countBelow n (λ k. eqb x k) ≡ total n (λ _. 0) + 1 =
         total-point n (λ _. 0) (λ k. weigh (eqb x k) 1) x 1 h (weigh-true (eqb x x) 1 (eqb-refl x)) (λ k _ o. apart k o) in
         omega (arith, zeros)
 
-    outside : n < suc x → count n (λ k. eqb x k) ≤ 1
+    outside : n < suc x → countBelow n (λ k. eqb x k) ≤ 1
     outside h =
-        let e : count n (λ k. eqb x k) ≡ 0 = total-zero n _ (λ k b. apart k (λ i. lt-irrefl x (omega arith))) in
+        let e : countBelow n (λ k. eqb x k) ≡ 0 = total-zero n _ (λ k b. apart k (λ i. lt-irrefl x (omega arith))) in
         omega arith
 
-count-flip : (n x : ℕ) → count n (λ k. eqb k x) ≤ 1
+count-flip : (n x : ℕ) → countBelow n (λ k. eqb k x) ≤ 1
 count-flip n x =
     subst (λ f. total n f ≤ 1) (fun-ext (λ k. ap (λ b. weigh b 1) (test-eq (eqb x k) (eqb k x) (λ t. eq→eqb k x (sym (eqb→eq x k t))) (λ t. eq→eqb x k (sym (eqb→eq k x t))))))
     (count-one n x)
 
-count-or : (n : ℕ) (p q : ℕ → Bool) → count n (λ k. p k or q k) ≤ count n p + count n q
+count-or : (n : ℕ) (p q : ℕ → Bool) → countBelow n (λ k. p k or q k) ≤ countBelow n p + countBelow n q
 count-or n p q =
-    subst (λ z. count n (λ k. p k or q k) ≤ z) (total-add n (λ k. weigh (p k) 1) (λ k. weigh (q k) 1)) (total-le n _ _ (λ k _. weigh-or (p k) (q k) 1))
+    subst (λ z. countBelow n (λ k. p k or q k) ≤ z) (total-add n (λ k. weigh (p k) 1) (λ k. weigh (q k) 1)) (total-le n _ _ (λ k _. weigh-or (p k) (q k) 1))
 
-count-member : (n : ℕ) (l : List ℕ) → count n (λ k. member k l) ≤ length l
+count-member : (n : ℕ) (l : List ℕ) → countBelow n (λ k. member k l) ≤ length l
 unfolding someOf
-count-member n [] = let e : count n (λ k. member k []) ≡ 0 = total-zero n _ (λ k _. weigh-false _ 1 (member-nil k)) in omega arith
+count-member n [] = let e : countBelow n (λ k. member k []) ≡ 0 = total-zero n _ (λ k _. weigh-false _ 1 (member-nil k)) in omega arith
 count-member n (x ∷ l) =
-    let a : count n (λ k. eqb k x or member k l) ≤ count n (λ k. eqb k x) + count n (λ k. member k l) = count-or n (λ k. eqb k x) (λ k. member k l) in
-    let b : count n (λ k. eqb k x) ≤ 1 = count-flip n x in
-    let c : count n (λ k. member k l) ≤ length l = count-member n l in
+    let a : countBelow n (λ k. eqb k x or member k l) ≤ countBelow n (λ k. eqb k x) + countBelow n (λ k. member k l) = count-or n (λ k. eqb k x) (λ k. member k l) in
+    let b : countBelow n (λ k. eqb k x) ≤ 1 = count-flip n x in
+    let c : countBelow n (λ k. member k l) ≤ length l = count-member n l in
     omega arith
 
 module _ (d : Theory) where
   -- a rule with antecedents is decided in a family
-  settled : ℕ → (ℕ → ℕ → Bool) → ℕ → Bool
-  settled f holds r = isnt (empty (bodyOf d r)) and decided d f holds r
+  decidedWithBody : ℕ → (ℕ → ℕ → Bool) → ℕ → Bool
+  decidedWithBody f holds r = isnt (empty (bodyOf d r)) and decided d f holds r
 
   -- each of a conclusion and its opposite costs, before pairs: 1 and its visits
   slotCost : ℕ → ℕ → ℕ
@@ -131,7 +131,7 @@ module _ (d : Theory) where
 
   -- the pairs of the rules decided in a family
   pairsOf : ℕ → (ℕ → Bool) → ℕ → ℕ
-  pairsOf n h f = weigh (isnt (eqb f 0)) (total (d .rules) (λ r. weigh (settled f (taggedBy (2 * n) h) r) (naming d r)))
+  pairsOf n h f = weigh (isnt (eqb f 0)) (total (d .rules) (λ r. weigh (decidedWithBody f (taggedBy (2 * n) h) r) (naming d r)))
 
   pub weight : ℕ → (ℕ → Bool) → ℕ
   weight n h = total (2 * (n * (2 * d .atoms))) (λ x. weigh (h x) (slotCost n (x / 2))) + total n (pairsOf n h)
@@ -174,17 +174,17 @@ module _ (d : Theory) where
         back q t c u = subst T (a .same (conclusion (2 * n) q t) c) u
 
     pairs-same : (f : ℕ) → f < n → (f ≡ x / 2 % n → ⊥) → pairsOf n k f ≡ pairsOf n h f
-    unfolding pairsOf settled before after
+    unfolding pairsOf decidedWithBody before after
     pairs-same f l o =
         ap (weigh (isnt (eqb f 0)))
         (total-ext (d .rules) _ _ (λ r _. ap (λ c. weigh (isnt (empty (bodyOf d r)) and c) (naming d r)) (test-eq _ _ (fewer f r l o) (more f r))))
 
     -- the pairs of the rules that x settles
     charged : ℕ → ℕ
-    charged f = weigh (isnt (eqb f 0)) (total (d .rules) (λ r. weigh (settles d f before after r) (naming d r)))
+    charged f = weigh (isnt (eqb f 0)) (total (d .rules) (λ r. weigh (decides d f before after r) (naming d r)))
 
     pairs-grow : (f : ℕ) → pairsOf n k f ≡ pairsOf n h f + charged f
-    unfolding pairsOf settled charged settles before after
+    unfolding pairsOf decidedWithBody charged decides before after
     pairs-grow f =
         ap (weigh (isnt (eqb f 0)))
         (total-ext (d .rules) _ _ (λ r _. weigh-grow (isnt (empty (bodyOf d r))) (decided d f before r) (decided d f after r) (naming d r) (more f r))
@@ -208,28 +208,28 @@ module _ (d : Theory) where
             omega arith
 
     -- the cost of a conclusion is the growth of the weight
-    pub cost-grows : x < 2 * (n * (2 * d .atoms)) → weight n k ≡ weight n h + price d (familyOf (x % (2 * n))) (x / (2 * n)) (taggedBy (2 * n) h) (taggedBy (2 * n) k)
+    pub cost-grows : x < 2 * (n * (2 * d .atoms)) → weight n k ≡ weight n h + costOf d (familyOf (x % (2 * n))) (x / (2 * n)) (taggedBy (2 * n) h) (taggedBy (2 * n) k)
     unfolding slotCost charged before after
     cost-grows b =
         weight-grows b
-        ∙ ap (weight n h +_) (ap₂ (λ f q. price d f q (taggedBy (2 * n) h) (taggedBy (2 * n) k)) (sym (family-half n x p)) (sym (literal-half n x)))
+        ∙ ap (weight n h +_) (ap₂ (λ f q. costOf d f q (taggedBy (2 * n) h) (taggedBy (2 * n) k)) (sym (family-half n x p)) (sym (literal-half n x)))
 
   -- nothing is settled by nothing
   weight-nothing : (n : ℕ) → weight n (held []) ≡ 0
-  unfolding weight pairsOf settled
+  unfolding weight pairsOf decidedWithBody
   weight-nothing n =
       ap₂ _+_ (total-zero (2 * (n * (2 * d .atoms))) _ (λ x _. weigh-false _ _ (member-nil x))) (total-zero n (pairsOf n (held [])) (λ f _. none f))
     where
-      undecided : (f r : ℕ) → T (settled f (taggedBy (2 * n) (held [])) r) → ⊥
+      undecided : (f r : ℕ) → T (decidedWithBody f (taggedBy (2 * n) (held [])) r) → ⊥
       undecided f r t =
           ⊎-elim (λ u. all-nothing d (taggedBy (2 * n) (held [])) (2 * f) r (λ a. member-nil _) (and-left _ _ t) u)
           (λ u. one-nothing d (taggedBy (2 * n) (held [])) (2 * f + 1) r (λ a. member-nil _) u) (or-elim _ _ (and-right _ _ t))
 
       none : (f : ℕ) → pairsOf n (held []) f ≡ 0
       none f =
-          let e : total (d .rules) (λ r. weigh (settled f (taggedBy (2 * n) (held [])) r) (naming d r)) ≡ 0 =
+          let e : total (d .rules) (λ r. weigh (decidedWithBody f (taggedBy (2 * n) (held [])) r) (naming d r)) ≡ 0 =
           total-zero (d .rules) _ (λ r _. weigh-false _ _ (undecided f r)) in
-          let l : pairsOf n (held []) f ≤ total (d .rules) (λ r. weigh (settled f (taggedBy (2 * n) (held [])) r) (naming d r)) = weigh-le _ _ in
+          let l : pairsOf n (held []) f ≤ total (d .rules) (λ r. weigh (decidedWithBody f (taggedBy (2 * n) (held [])) r) (naming d r)) = weigh-le _ _ in
           omega arith
 
   -- each entry is visited at most once in a family
@@ -246,12 +246,12 @@ module _ (d : Theory) where
       subst (λ m. m ≤ d .pairs * 2) (sym (total-swap (d .rules) (d .pairs) (λ r i. weigh (names d (d .pair i) r) 1)))
       (le-trans (total-le (d .pairs) _ (λ _. 2) (λ i _. two i)) (le-of-eq (total-const (d .pairs) 2)))
     where
-      two : (i : ℕ) → count (d .rules) (names d (d .pair i)) ≤ 2
+      two : (i : ℕ) → countBelow (d .rules) (names d (d .pair i)) ≤ 2
       two i =
-          let a : count (d .rules) (names d (d .pair i)) ≤ count (d .rules) (λ r. eqb (d .pair i .stronger) r) + count (d .rules) (λ r. eqb (d .pair i .weaker) r) =
+          let a : countBelow (d .rules) (names d (d .pair i)) ≤ countBelow (d .rules) (λ r. eqb (d .pair i .stronger) r) + countBelow (d .rules) (λ r. eqb (d .pair i .weaker) r) =
           count-or (d .rules) _ _ in
-          let b : count (d .rules) (λ r. eqb (d .pair i .stronger) r) ≤ 1 = count-one (d .rules) _ in
-          let c : count (d .rules) (λ r. eqb (d .pair i .weaker) r) ≤ 1 = count-one (d .rules) _ in
+          let b : countBelow (d .rules) (λ r. eqb (d .pair i .stronger) r) ≤ 1 = count-one (d .rules) _ in
+          let c : countBelow (d .rules) (λ r. eqb (d .pair i .weaker) r) ≤ 1 = count-one (d .rules) _ in
           omega arith
 
   slots-bound : (n : ℕ) → total (n * (2 * d .atoms)) (slotCost n) ≤ n * (2 * d .atoms + entries d)

@@ -10,8 +10,8 @@ pub data Leads (d : Theory) : ℕ → ℕ → Type 0 where
   one : {r s : ℕ} → T (superior d r s) → Leads d r s
   more : {r s t : ℕ} → T (superior d r s) → Leads d s t → Leads d r t
 
-abbrev pub Circle : Theory → Type 0
-Circle d = (r : ℕ) × Leads d r r
+abbrev pub Cycle : Theory → Type 0
+Cycle d = (r : ℕ) × Leads d r r
 
 module _ (d : Theory) where
   -- a rule that leads to one of the list
@@ -24,5 +24,5 @@ module _ (d : Theory) where
   prune (suc n) l = prune n (pick l (leadsInto l))
 
   -- some rule is left when that was done as often as there are rules
-  unfoldable pub circular : Bool
-  circular = isnt (empty (prune (d .rules) (upto (d .rules))))
+  unfoldable pub cyclic : Bool
+  cyclic = isnt (empty (prune (d .rules) (upto (d .rules))))
