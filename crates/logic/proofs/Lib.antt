@@ -3,6 +3,7 @@ pub mod Lists
 pub mod Sums
 pub mod Pigeon
 pub mod Cycle
+pub mod Theories
 pub mod Derivations
 pub mod Runs
 pub mod Budgets

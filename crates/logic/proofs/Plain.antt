@@ -19,6 +19,7 @@ use Rattle.logic.specs.Demands.{Demands}
 use Rattle.logic.proofs.Tests.{and-intro, and-left, and-right, or-left, or-right, or-elim, isnt-intro, isnt-elim, implies-intro, implies-elim, every-intro, every-elim, some-intro, some-elim}
 use Rattle.logic.proofs.Candidates.{candidate-self, candidate-complement, candidate-head}
 use Rattle.logic.proofs.Bodies.{all-moves, one-moves, all-one}
+use Rattle.logic.proofs.Theories.{heads-below}
 use Rattle.logic.proofs.Derivations.{Lawful, derives-all-below}
 use Rattle.logic.proofs.Budgets.{Weighed, demands}
 use Rattle.logic.proofs.Coherence.{Coherent, derivation-coherent, coherent-length}
@@ -194,12 +195,9 @@ plain-rules =
     }
 
 module _ (d : Theory) (p : T (proper d)) where
-  heads-below : (r : ℕ) → r < d .rules → headOf d r < 2 * d .atoms
-  heads-below r b = ltb→lt _ _ (every-elim _ _ (and-right _ _ (and-left _ _ (and-left _ _ p))) r b)
-
   -- the plain system's laws
   pub plain-lawful : Lawful (plainSystem d)
-  plain-lawful = system-lawful plain plain-rules d heads-below
+  plain-lawful = system-lawful plain plain-rules d (heads-below d p)
 
   -- never a tag and its opposite
   pub plain-coherent : (l : List ℕ) → T (derivation (plainSystem d) l) → Coherent (held l)
@@ -213,11 +211,11 @@ module _ (d : Theory) (p : T (proper d)) where
   unfolding systemOf
   conclusions-below l t x m = let b : x < 4 * (2 * d .atoms) = derives-all-below (plainSystem d) [] l t x m in omega arith
 
-  -- Demands 2 and 3 of document 01, for every budget.
   start-paid : plainSystem d .start ≤ 5 * size d
   unfolding systemOf
   start-paid = omega arith
 
+  -- Demands 2 and 3 of document 01, for every budget.
   pub plain-demands : (budget : ℕ) → Demands (plainSystem d) (bound d) (5 * size d) budget
   plain-demands = demands (plainSystem d) plain-lawful (bound d) plain-weighed (5 * size d) start-paid (omega arith)
 
