@@ -8,3 +8,4 @@ pub mod Plain
 pub mod Demands
 pub mod Verdict
 pub mod Cycle
+pub mod Cases
