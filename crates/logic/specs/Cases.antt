@@ -3,26 +3,25 @@
 use Prim.Native.Nat.{ℕ}
 use mathlib.Core.Bool.{Bool, true, false}
 use mathlib.Core.List.{List, [], _∷_, map}
-use lib.Dec.{T, eqb}
+use lib.Dec.{eqb}
 use lib.ListN.{length, getD}
-use Rattle.logic.specs.Tests.{_and_, _or_, isnt, every, some, everyOf, someOf, empty, total, weigh, upto, pick}
-use Rattle.logic.specs.Theory.{Theory, Rule, Pair, Kind, strict, defeasible, defeater, isStrict, canSupport, strictFor, supporter, attacker, superior}
-use Rattle.logic.specs.Inference.{allHave, oneHas, follows}
+use Rattle.logic.specs.Tests.{_and_, _or_, isnt, upto}
+use Rattle.logic.specs.Theory.{Theory, Rule, Pair, Kind, strict, defeasible, defeater, superior}
 use Rattle.logic.specs.System.{held}
-use Rattle.logic.specs.Worklist.{Outcome, logOf, worked, put, grow, proceed, run}
-use Rattle.logic.specs.Reading.{visits, heads, decides, withTags, taggedBy, systemOf}
+use Rattle.logic.specs.Worklist.{Outcome, logOf, worked, run}
+use Rattle.logic.specs.Reading.{taggedBy}
 use Rattle.logic.specs.Plain.{plainSystem, bound}
 use Rattle.logic.specs.Verdict.{Verdict, go, hold, split, «open», verdict}
-use Rattle.logic.specs.Cycle.{prune, cyclic}
+use Rattle.logic.specs.Cycle.{cyclic}
 
-rule : Kind → ℕ → List ℕ → Rule
+unfoldable pub rule : Kind → ℕ → List ℕ → Rule
 rule k q l = record { kind = k; head = q; body = l }
 
-over : ℕ → ℕ → Pair
+unfoldable pub over : ℕ → ℕ → Pair
 over t s = record { stronger = t; weaker = s }
 
 -- atoms, facts, rules, pairs
-theory : ℕ → List ℕ → List Rule → List Pair → Theory
+unfoldable pub theory : ℕ → List ℕ → List Rule → List Pair → Theory
 theory n fs rs ps =
     record {
       atoms = n;
@@ -45,40 +44,40 @@ pub record Row : Type 0 where
   pub most : ℕ
   pub verdicts : List Verdict
 
-row : Theory → ℕ → Bool → List ℕ → ℕ → ℕ → ℕ → List Verdict → Row
+unfoldable pub row : Theory → ℕ → Bool → List ℕ → ℕ → ℕ → ℕ → List Verdict → Row
 row d b f l w s m v = record { given = d; budget = b; finished = f; log = l; worked = w; spent = s; most = m; verdicts = v }
 
-both : Bool → Bool → Bool
+unfoldable pub both : Bool → Bool → Bool
 both a b = (a and b) or (isnt a and isnt b)
 
-sameList : List ℕ → List ℕ → Bool
+unfoldable pub sameList : List ℕ → List ℕ → Bool
 sameList [] [] = true
 sameList [] (y ∷ ys) = false
 sameList (x ∷ xs) [] = false
 sameList (x ∷ xs) (y ∷ ys) = eqb x y and sameList xs ys
 
-numberOf : Verdict → ℕ
+unfoldable pub numberOf : Verdict → ℕ
 numberOf go = 0
 numberOf hold = 1
 numberOf split = 2
 numberOf «open» = 3
 
-verdictsOf : Theory → List ℕ → List Verdict
+unfoldable pub verdictsOf : Theory → List ℕ → List Verdict
 verdictsOf d l = map (verdict (taggedBy 4 (held l))) (upto (d .atoms))
 
-gives : Row → Outcome → Bool
+unfoldable pub gives : Row → Outcome → Bool
 gives r o =
     both (o .finished) (r .finished) and sameList (logOf o) (r .log) and eqb (worked o) (r .worked) and eqb (o .spent) (r .spent)
     and eqb (bound (r .given)) (r .most) and sameList (map numberOf (verdictsOf (r .given) (logOf o))) (map numberOf (r .verdicts))
 
-right : List Row → Bool
+unfoldable pub right : List Row → Bool
 right [] = true
 right (r ∷ rs) = gives r (run (plainSystem (r .given)) (r .budget)) and right rs
 
-caseOne : Theory
+unfoldable pub caseOne : Theory
 caseOne = theory 2 (0 ∷ []) (rule defeasible 2 (0 ∷ []) ∷ rule defeasible 3 [] ∷ []) (over 0 1 ∷ [])
 
-rows : List Row
+unfoldable pub rows : List Row
 rows =
     -- 1. Case 1 at the sheet's budget 19: deck clear, so the bar may travel, and the stronger rule wins; 17 spent of 19.
     row caseOne 19 true (0 ∷ 5 ∷ 9 ∷ 13 ∷ 2 ∷ 7 ∷ 10 ∷ 15 ∷ []) 8 17 19 (go ∷ go ∷ []) ∷
@@ -133,18 +132,17 @@ rows =
     row (theory 1 [] (rule strict 0 [] ∷ rule strict 1 (0 ∷ 1 ∷ []) ∷ []) (over 0 1 ∷ [])) 16 true (0 ∷ 2 ∷ []) 2 10 16 (go ∷ []) ∷ []
 
 -- Document 01: "Pairs (0,1),(1,0): 7. Pair (0,0): 7." The first two lead back, the third does not.
-twoRules : List Pair → Theory
+unfoldable pub twoRules : List Pair → Theory
 twoRules ps = theory 1 [] (rule defeasible 0 [] ∷ rule defeasible 1 [] ∷ []) ps
 
-leadsBack : Theory → Bool
+unfoldable pub leadsBack : Theory → Bool
 leadsBack d = cyclic (superior d) (d .rules)
 
-cycleRows : Bool
+unfoldable pub cycleRows : Bool
 cycleRows =
     leadsBack (twoRules (over 0 1 ∷ over 1 0 ∷ [])) and leadsBack (twoRules (over 0 0 ∷ []))
     and isnt (leadsBack (twoRules (over 0 1 ∷ [])))
 
--- All rows hold, by computation.
-cases-hold : T (right rows and cycleRows)
-unfolding _and_ _or_ isnt every some everyOf someOf empty total weigh upto pick isStrict canSupport strictFor supporter attacker superior allHave oneHas follows put grow proceed run visits heads decides withTags systemOf prune cyclic rule over theory row both sameList numberOf verdictsOf gives right caseOne rows twoRules leadsBack cycleRows
-cases-hold = tt
+-- All rows hold: proofs/Answers.antt computes it.
+unfoldable pub casesHold : Bool
+casesHold = right rows and cycleRows
