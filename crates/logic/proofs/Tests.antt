@@ -23,6 +23,12 @@ pub false-of : (b : Bool) → (T b → ⊥) → b ≡ false
 false-of true n = absurd (n tt)
 false-of false n = refl
 
+pub of-true : (b : Bool) → b ≡ true → T b
+of-true b e = subst T (sym e) tt
+
+pub of-false : (b : Bool) → b ≡ false → T b → ⊥
+of-false b e t = subst T e t
+
 -- two tests that pass together are equal
 pub test-eq : (a b : Bool) → (T a → T b) → (T b → T a) → a ≡ b
 test-eq true true f g = refl
@@ -130,6 +136,13 @@ unfolding some
 some-elim zero p t = absurd t
 some-elim (suc n) p t =
     ⊎-elim (λ u. let (k, h, v) = some-elim n p u in (k, le-step h, v)) (λ u. (n, le-refl (suc n), u)) (or-elim _ _ t)
+
+-- what a search gives: found at k, or nowhere
+pub some-found : (n : ℕ) (p : ℕ → Bool) (k : ℕ) → k < n → T (p k) → true ≡ some n p
+some-found n p k h t = sym (true-of _ (some-intro n p k h t))
+
+pub some-none : (n : ℕ) (p : ℕ → Bool) → ((k : ℕ) → k < n → T (p k) → ⊥) → false ≡ some n p
+some-none n p f = sym (false-of _ (λ t. let (k, h, u) = some-elim n p t in f k h u))
 
 pub everyOf-intro : (l : List ℕ) (p : ℕ → Bool) → ((x : ℕ) → T (member x l) → T (p x)) → T (everyOf l p)
 unfolding everyOf someOf

@@ -1,0 +1,35 @@
+-- Laws of the format's readers. Assumes nothing.
+use Prim.Native.Nat.{ℕ, zero, suc, _+_, _≤_, _<_}
+use native.Mathlib.Nat.{not-le-of-lt}
+use mathlib.Core.Path.{_≡_, refl, sym, _∙_, ap, subst}
+use mathlib.Core.Bool.{Bool}
+use mathlib.Core.List.{List}
+use Rattle.logic.specs.Tests.{some}
+use lib.Dec.{T, leb, leb→le, le→leb, ltb, lt→ltb}
+use Rattle.logic.proofs.Tests.{cond-true}
+use Rattle.table.specs.declared.format.Sizes.{Sizes}
+use Rattle.table.specs.declared.format.Kind.the-variants.{Defeater}
+use Rattle.table.specs.Format.{word, spanOf, right, rightIn, kindOf}
+
+pub kind-rest : (n : ℕ) → (n ≡ 0 → ⊥) → (n ≡ 1 → ⊥) → Defeater ≡ kindOf n
+unfolding kindOf
+kind-rest zero a b = absurd (a refl)
+kind-rest (suc zero) a b = absurd (b refl)
+kind-rest (suc (suc n)) a b = refl
+
+-- a word of the right array, read past a span that is the sizes'
+pub right-read : (b : List ℕ) (s : Sizes) (from n i span r : ℕ) → i < n → span ≡ spanOf s → r ≡ word b (5 + span + (from + i)) → r ≡ rightIn b s from n i
+unfolding rightIn
+right-read b s from n i span r h e f = f ∙ ap (λ k. word b (5 + k + (from + i))) e ∙ sym (cond-true (ltb i n) (right b s (from + i)) 0 (lt→ltb i n h))
+
+-- a number read as r, against a limit
+pub at-least : {a r w : ℕ} → r ≡ w → a ≤ r → T (leb a w)
+at-least {a} {r} {w} e h = le→leb a w (subst (λ z. a ≤ z) e h)
+
+pub not-at-least : {a r w : ℕ} → r ≡ w → r < a → T (leb a w) → ⊥
+not-at-least {a} {r} {w} e h t = not-le-of-lt h (subst (λ z. a ≤ z) (sym e) (leb→le a w t))
+
+-- a scan of the right array, past a span that is the sizes'
+pub right-scan : (b : List ℕ) (n limit from span k : ℕ) (r : Bool) → k ≡ span → r ≡ some n (λ i. leb limit (word b (5 + k + (from + i))))
+    → r ≡ some n (λ i. leb limit (word b (5 + span + (from + i))))
+right-scan b n limit from span k r e f = f ∙ ap (λ j. some n (λ i. leb limit (word b (5 + j + (from + i))))) e

@@ -1,0 +1,33 @@
+-- `table::format::read_sizes` meets its contract. Assumes nothing.
+use borrow.Author.Needs.{needs}
+use Rattle.table.proofs.format.read_sizes.Statement.{statement}
+use Rattle.table.proofs.format.read_sizes.Tie as tie
+
+word-requires : tie.Need-word-requires
+word-requires c κs = search needs
+
+word-requires-2 : tie.Need-word-requires-2
+word-requires-2 c κs = search needs
+
+word-requires-3 : tie.Need-word-requires-3
+word-requires-3 c κs = search needs
+
+word-requires-4 : tie.Need-word-requires-4
+word-requires-4 c κs = search needs
+
+word-requires-5 : tie.Need-word-requires-5
+word-requires-5 c κs = search needs
+
+returns : tie.Need-returns
+returns c = λ i. record { atoms = c .before .before .before .before .word .ensures i; facts = c .before .before .before .word2 .ensures i; rules = c .before .before .word3 .ensures i; entries = c .before .word4 .ensures i; pairs = c .word5 .ensures i }
+
+pub read-sizes-spec : {M : Type 1} → statement M
+read-sizes-spec =
+    tie.close
+    (tie.spec
+    word-requires
+    word-requires-2
+    word-requires-3
+    word-requires-4
+    word-requires-5
+    returns)

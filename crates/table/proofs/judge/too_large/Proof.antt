@@ -1,0 +1,30 @@
+-- `table::judge::too_large` meets its contract. Assumes nothing.
+use mathlib.Core.Path.{refl}
+use Rattle.table.proofs.Joined.{ored}
+use Rattle.table.specs.Refusals.{oversize}
+use Rattle.logic.specs.Tests.{_or_}
+use mathlib.Core.Path.{_∙_, ap}
+use borrow.Author.Needs.{needs}
+use Rattle.table.proofs.judge.too_large.Statement.{statement}
+use Rattle.table.proofs.judge.too_large.Tie as tie
+
+either-requires : tie.Need-either-requires
+either-requires c κs = search needs
+
+either-requires-2 : tie.Need-either-requires-2
+either-requires-2 c κs = search needs
+
+either-requires-3 : tie.Need-either-requires-3
+either-requires-3 c κs = search needs
+
+either-requires-4 : tie.Need-either-requires-4
+either-requires-4 c κs = search needs
+
+returns : tie.Need-returns
+unfolding oversize
+returns c = ored (c .either4 .ensures) refl (ored (c .before .either3 .ensures) refl (ored (c .before .before .before .before .either2 .ensures) refl (c .before .before .before .before .before .before .either .ensures)))
+
+pub too-large-spec : {M : Type 1} → statement M
+too-large-spec =
+    tie.close
+    (tie.spec either-requires either-requires-2 either-requires-3 either-requires-4 returns)

@@ -1,0 +1,59 @@
+-- `table::order::section_from` meets its contract. Assumes nothing.
+use mathlib.Core.Path.{sym, ap}
+use native.Mathlib.Omega.{arith}
+use Rattle.table.specs.Refusals.{sectionFrom, sectionSize}
+use Rattle.table.proofs.Sections.{from-rest, size-rest}
+use borrow.Author.Needs.{needs}
+use Rattle.table.proofs.order.section_from.Statement.{statement}
+use Rattle.table.proofs.order.section_from.Tie as tie
+
+cast-result : tie.Need-cast-result
+cast-result c = search needs
+
+cast-result-2 : tie.Need-cast-result-2
+cast-result-2 c = search needs
+
+add-result : tie.Need-add-result
+add-result c = search needs
+
+cast-result-3 : tie.Need-cast-result-3
+cast-result-3 c = search needs
+
+cast-result-4 : tie.Need-cast-result-4
+cast-result-4 c = search needs
+
+add-result-2 : tie.Need-add-result-2
+add-result-2 c = search needs
+
+cast-result-5 : tie.Need-cast-result-5
+cast-result-5 c = search needs
+
+add-result-3 : tie.Need-add-result-3
+add-result-3 c = search needs
+
+returns : tie.Need-returns
+unfolding sectionFrom
+returns c = (sym (ap (sectionFrom _) (c .match .keys1)), omega arith)
+
+returns-2 : tie.Need-returns-2
+unfolding sectionFrom
+returns-2 c = (sym (ap (sectionFrom _) (c .before .before .match .keys2)), omega arith)
+
+returns-3 : tie.Need-returns-3
+returns-3 c = (from-rest _ _ (c .before .before .before .match .rest .0 .1) (c .before .before .before .match .rest .1), omega arith)
+
+pub section-from-spec : {M : Type 1} → statement M
+section-from-spec =
+    tie.close
+    (tie.spec
+    cast-result
+    cast-result-2
+    add-result
+    cast-result-3
+    cast-result-4
+    add-result-2
+    cast-result-5
+    add-result-3
+    returns
+    returns-2
+    returns-3)

@@ -1,0 +1,102 @@
+-- `table::range::out_of_range` meets its contract. Assumes nothing.
+use Rattle.table.specs.Refusals.{outOfRange}
+use Rattle.table.proofs.Joined.{ored}
+use Rattle.table.proofs.Reading.{right-scan}
+use borrow.Author.Needs.{needs}
+use Rattle.table.proofs.range.out_of_range.Statement.{statement}
+use Rattle.table.proofs.range.out_of_range.Tie as tie
+
+cast-literals : tie.Need-cast-literals
+cast-literals c = search needs
+
+mul-literals : tie.Need-mul-literals
+mul-literals c = search needs
+
+cast-rules : tie.Need-cast-rules
+cast-rules c = search needs
+
+span-requires : tie.Need-span-requires
+span-requires c κs = search needs
+
+add-right : tie.Need-add-right
+add-right c = search needs
+
+cast-at-rules : tie.Need-cast-at-rules
+cast-at-rules c = search needs
+
+add-at-entries : tie.Need-add-at-entries
+add-at-entries c = search needs
+
+cast-at-pairs : tie.Need-cast-at-pairs
+cast-at-pairs c = search needs
+
+add-at-pairs : tie.Need-add-at-pairs
+add-at-pairs c = search needs
+
+any-at-least-requires : tie.Need-any-at-least-requires
+any-at-least-requires c κs = search needs
+
+any-at-least-requires-2 : tie.Need-any-at-least-requires-2
+any-at-least-requires-2 c κs = search needs
+
+any-at-least-requires-3 : tie.Need-any-at-least-requires-3
+any-at-least-requires-3 c κs = search needs
+
+any-at-least-requires-4 : tie.Need-any-at-least-requires-4
+any-at-least-requires-4 c κs = search needs
+
+any-at-least-requires-5 : tie.Need-any-at-least-requires-5
+any-at-least-requires-5 c κs = search needs
+
+any-at-least-requires-6 : tie.Need-any-at-least-requires-6
+any-at-least-requires-6 c κs = search needs
+
+either-requires : tie.Need-either-requires
+either-requires c κs = search needs
+
+either-requires-2 : tie.Need-either-requires-2
+either-requires-2 c κs = search needs
+
+either-requires-3 : tie.Need-either-requires-3
+either-requires-3 c κs = search needs
+
+either-requires-4 : tie.Need-either-requires-4
+either-requires-4 c κs = search needs
+
+either-requires-5 : tie.Need-either-requires-5
+either-requires-5 c κs = search needs
+
+returns : tie.Need-returns
+unfolding outOfRange
+returns c =
+    ored (c .either5 .ensures)
+    (ored (c .before .before .either3 .ensures)
+    (ored (c .before .before .before .before .either .ensures) (right-scan _ _ _ _ _ _ _ (c .before .before .before .before .before .before .before .before .before .before .before .before .before .span .ensures) (c .before .before .before .before .before .before .before .before .before .before .any-at-least .ensures)) (right-scan _ _ _ _ _ _ _ (c .before .before .before .before .before .before .before .before .before .before .before .before .before .span .ensures) (c .before .before .before .before .before .before .before .before .before .any-at-least2 .ensures)))
+    (ored (c .before .before .before .either2 .ensures) (c .before .before .before .before .before .before .before .before .any-at-least3 .ensures) (right-scan _ _ _ _ _ _ _ (c .before .before .before .before .before .before .before .before .before .before .before .before .before .span .ensures) (c .before .before .before .before .before .before .before .any-at-least4 .ensures))))
+    (ored (c .before .either4 .ensures) (c .before .before .before .before .before .before .any-at-least5 .ensures) (right-scan _ _ _ _ _ _ _ (c .before .before .before .before .before .before .before .before .before .before .before .before .before .span .ensures) (c .before .before .before .before .before .any-at-least6 .ensures)))
+
+pub out-of-range-spec : {M : Type 1} → statement M
+out-of-range-spec =
+    tie.close
+    (tie.spec
+    cast-literals
+    mul-literals
+    cast-rules
+    span-requires
+    add-right
+    cast-at-rules
+    add-at-entries
+    cast-at-pairs
+    add-at-pairs
+    any-at-least-requires
+    any-at-least-requires-2
+    any-at-least-requires-3
+    any-at-least-requires-4
+    any-at-least-requires-5
+    any-at-least-requires-6
+    either-requires
+    either-requires-2
+    either-requires-3
+    either-requires-4
+    either-requires-5
+    returns)

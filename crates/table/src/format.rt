@@ -1,0 +1,179 @@
+// Document 01, The table: literals, rules, sizes, and what stands at each place. Every function is total: a reader gives what its
+// definition in specs/Format.antt says for every table, sizes and index.
+ghost use Prim.Native.Nat.{_+_, _*_, _≤_};
+ghost use mathlib.Core.Path.{_≡_};
+ghost use Rattle.logic.specs.Theory.{complement, atom};
+ghost use Rattle.table.specs.Format.{word, sizesOf, spanOf, leftIn, rightIn, kindOf, factAt, ruleAt, entryAt, pairAt};
+
+// A literal: 2a says that atom a holds, 2a + 1 that it does not.
+pub struct Literal(pub u16);
+
+impl Literal {
+    // The literal with its lowest bit flipped.
+    pub fn complement(self) -> Literal
+        ensures { λ r. ⌜ r .0 ≡ complement (self .0) ⌝ }
+    {
+        let q = self.0;
+        Literal(q / 2 * 2 + (1 - q % 2))
+    }
+
+    pub fn atom(self) -> u16
+        ensures { λ r. ⌜ r ≡ atom (self .0) ⌝ }
+    {
+        self.0 / 2
+    }
+}
+
+pub enum Kind {
+    Strict,
+    Defeasible,
+    Defeater,
+}
+
+// A rule's kind and head. Its body is apart (body.rt).
+pub struct Rule {
+    pub kind: Kind,
+    pub head: Literal,
+}
+
+// A pair: rule `stronger` over rule `weaker`.
+pub struct Pair {
+    pub stronger: u16,
+    pub weaker: u16,
+}
+
+// An antecedent entry: `literal` stands in the body of rule `rule`.
+pub struct Entry {
+    pub rule: u16,
+    pub literal: Literal,
+}
+
+// The five sizes A, F, N, B, P.
+pub struct Sizes {
+    pub atoms: u16,
+    pub facts: u16,
+    pub rules: u16,
+    pub entries: u16,
+    pub pairs: u16,
+}
+
+impl Sizes {
+    pub const MAX_ATOMS: u16 = 512;
+
+    pub const MAX_FACTS: u16 = 1024;
+
+    pub const MAX_RULES: u16 = 1024;
+
+    pub const MAX_ENTRIES: u16 = 4096;
+
+    pub const MAX_PAIRS: u16 = 2048;
+
+    // T = F + N + B + P, the length of each of the two arrays.
+    pub fn span(self) -> usize
+        ensures { λ r. ⌜ r ≡ spanOf self ⌝ }
+    {
+        self.facts as usize + self.rules as usize + self.entries as usize + self.pairs as usize
+    }
+}
+
+fn join(low: u8, high: u8) -> u16
+    ensures { λ r. ⌜ r ≡ low + 256 * high ⌝ }
+{
+    low as u16 + 256 * (high as u16)
+}
+
+// The 16-bit word at an index, 0 past the end.
+pub fn word(table: &[u8], i: usize) -> u16
+    ensures { λ r. ⌜ r ≡ word (now (table .entry)) i ⌝ }
+{
+    if i < table.len() / 2 {
+        join(table[2 * i], table[2 * i + 1])
+    } else {
+        0
+    }
+}
+
+// The five words that come first.
+pub fn read_sizes(table: &[u8]) -> Sizes
+    ensures { λ r. ⌜ r ≡ sizesOf (now (table .entry)) ⌝ }
+{
+    Sizes {
+        atoms: word(table, 0),
+        facts: word(table, 1),
+        rules: word(table, 2),
+        entries: word(table, 3),
+        pairs: word(table, 4),
+    }
+}
+
+// The i-th of the n words of the left array from a place on, 0 from the n-th on.
+fn left_word(table: &[u8], from: usize, n: u16, i: usize) -> u16
+    requires { ⌜ from ≤ 262140 ⌝ }
+    ensures { λ r. ⌜ r ≡ leftIn (now (table .entry)) from n i ⌝ }
+{
+    if i < n as usize {
+        word(table, 5 + (from + i))
+    } else {
+        0
+    }
+}
+
+// The same of the right array.
+fn right_word(table: &[u8], s: Sizes, from: usize, n: u16, i: usize) -> u16
+    requires { ⌜ from ≤ 262140 ⌝ }
+    ensures { λ r. ⌜ r ≡ rightIn (now (table .entry)) s from n i ⌝ }
+{
+    let span = s.span();
+    if i < n as usize {
+        word(table, 5 + span + (from + i))
+    } else {
+        0
+    }
+}
+
+// The i-th fact.
+pub fn read_fact(table: &[u8], s: Sizes, i: usize) -> Literal
+    ensures { λ r. ⌜ r ≡ factAt (now (table .entry)) s i ⌝ }
+{
+    Literal(right_word(table, s, 0, s.facts, i))
+}
+
+fn kind_of(n: u16) -> Kind
+    ensures { λ r. ⌜ r ≡ kindOf n ⌝ }
+{
+    match n {
+        0 => Kind::Strict,
+        1 => Kind::Defeasible,
+        _ => Kind::Defeater,
+    }
+}
+
+// Rule r, without its body.
+pub fn read_rule(table: &[u8], s: Sizes, r: usize) -> Rule
+    ensures { λ x. ⌜ x ≡ ruleAt (now (table .entry)) s r ⌝ }
+{
+    let from = s.facts as usize;
+    let kind = kind_of(left_word(table, from, s.rules, r));
+    let head = Literal(right_word(table, s, from, s.rules, r));
+    Rule { kind, head }
+}
+
+// The i-th entry.
+pub fn read_entry(table: &[u8], s: Sizes, i: usize) -> Entry
+    ensures { λ r. ⌜ r ≡ entryAt (now (table .entry)) s i ⌝ }
+{
+    let from = s.facts as usize + s.rules as usize;
+    let rule = left_word(table, from, s.entries, i);
+    let literal = Literal(right_word(table, s, from, s.entries, i));
+    Entry { rule, literal }
+}
+
+// The i-th pair.
+pub fn read_pair(table: &[u8], s: Sizes, i: usize) -> Pair
+    ensures { λ r. ⌜ r ≡ pairAt (now (table .entry)) s i ⌝ }
+{
+    let from = s.facts as usize + s.rules as usize + s.entries as usize;
+    let stronger = left_word(table, from, s.pairs, i);
+    let weaker = right_word(table, s, from, s.pairs, i);
+    Pair { stronger, weaker }
+}
