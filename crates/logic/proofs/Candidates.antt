@@ -9,19 +9,8 @@ use lib.Dec.{T, eqb, eqb→eq}
 use Rattle.logic.specs.Tests.{_and_, _or_, isnt, member, upto, pick}
 use Rattle.logic.specs.Theory.{Theory, complement, isStrict, kindOf, headOf, bodyOf}
 use Rattle.logic.specs.Reading.{conclusion, visits, visited, heads, candidates, withTags}
-use Rattle.logic.proofs.Lists.{member-nil, member-here, member-there, member-cons-elim, member-left, member-right, member-append, member-pick, member-pick-intro, member-upto, member-upto-intro}
+use Rattle.logic.proofs.Lists.{member-nil, member-here, member-there, member-cons-elim, member-left, member-right, member-append, member-pick, member-pick-intro, member-upto, member-upto-intro, member-map, member-map-intro}
 use Rattle.logic.proofs.Literals.{complement-complement, complement-below}
-
-member-map-intro : (f : ℕ → ℕ) (l : List ℕ) (x : ℕ) → T (member x l) → T (member (f x) (map f l))
-member-map-intro f [] x m = absurd (member-nil x m)
-member-map-intro f (y ∷ l) x m =
-    ⊎-elim (λ e. subst (λ z. T (member (f x) (f z ∷ map f l))) e (member-here (f x) (map f l)))
-    (λ u. member-there (f x) (f y) (map f l) (member-map-intro f l x u)) (member-cons-elim x y l m)
-
-member-map : (f : ℕ → ℕ) (l : List ℕ) (x : ℕ) → T (member x (map f l)) → (y : ℕ) × T (member y l) × (x ≡ f y)
-member-map f [] x m = absurd (member-nil x m)
-member-map f (y ∷ l) x m =
-    ⊎-elim (λ e. (y, member-here y l, e)) (λ u. let (z, v, e) = member-map f l x u in (z, member-there z y l v, e)) (member-cons-elim x (f y) (map f l) m)
 
 -- the conclusions about a list of literals: each with every tag
 pub member-withTags-intro : (n : ℕ) (qs : List ℕ) (q t : ℕ) → T (member q qs) → t < n → T (member (conclusion n q t) (withTags n qs))

@@ -15,9 +15,10 @@ use Rattle.logic.specs.System.{System, held}
 use Rattle.logic.specs.Reading.{Reading, tags, familyOf, conclusion, visits, visited, decided, decides, names, naming, costOf, taggedBy, systemOf}
 use Rattle.logic.proofs.Tests.{test-cases, at-most, test-eq, and-left, and-right, or-left, or-right, or-elim, eq→eqb}
 use Rattle.logic.proofs.Lists.{member-nil, member-left, member-snoc, member-last, member-cons-elim, member-here, member-there, distinct-apart}
-use Rattle.logic.proofs.Sums.{total-ext, total-le, total-add, total-const, total-zero, total-swap, total-grid, total-point, weigh-true, weigh-false, weigh-le, count-upto}
+use Rattle.logic.proofs.Sums.{total-ext, total-le, total-add, total-const, total-zero, total-swap, total-grid, total-point, weigh-true, weigh-false, weigh-le, weigh-imply, count-upto}
 use Rattle.logic.proofs.Derivations.{Lawful, derives-all-below}
 use Rattle.logic.proofs.Budgets.{Weighed}
+use Rattle.logic.proofs.Pigeon.{count-one}
 use Rattle.logic.proofs.Coherence.{Coherent, derivation-coherent, coherent-total}
 use Rattle.logic.proofs.Readings.{Rules, system-opposed}
 use Rattle.logic.proofs.Bodies.{all-moves, one-moves, all-nothing, one-nothing}
@@ -47,12 +48,6 @@ unfolding weigh
 weigh-mono true m n h = h
 weigh-mono false m n h = le-refl 0
 
-weigh-imply : (a b : Bool) (n : ℕ) → (T a → T b) → weigh a n ≤ weigh b n
-unfolding weigh
-weigh-imply true true n f = le-refl n
-weigh-imply true false n f = absurd (f tt)
-weigh-imply false b n f = omega arith
-
 weigh-or : (a b : Bool) (n : ℕ) → weigh (a or b) n ≤ weigh a n + weigh b n
 unfolding weigh _or_
 weigh-or true b n = omega arith
@@ -81,27 +76,7 @@ total-later (suc n) c =
     let last : weigh (isnt (eqb (suc n) 0)) c ≡ c = ap (λ b. weigh (isnt b) c) (eqb·suc-zero n) in
     omega arith
 
--- one number is counted once, the numbers of a list at most as often as the list is long
-count-one : (n x : ℕ) → countBelow n (λ k. eqb x k) ≤ 1
-count-one n x = ⊎-elim inside outside (at-most (suc x) n)
-  where
-    zeros : total n (λ _. 0) ≡ 0
-    zeros = total-zero n (λ _. 0) (λ k _. refl)
-
-    apart : (k : ℕ) → (k ≡ x → ⊥) → weigh (eqb x k) 1 ≡ 0
-    apart k o = weigh-false (eqb x k) 1 (λ t. o (sym (eqb→eq x k t)))
-
-    inside : x < n → countBelow n (λ k. eqb x k) ≤ 1
-    inside h =
-        let e : countBelow n (λ k. eqb x k) ≡ total n (λ _. 0) + 1 =
-        total-point n (λ _. 0) (λ k. weigh (eqb x k) 1) x 1 h (weigh-true (eqb x x) 1 (eqb-refl x)) (λ k _ o. apart k o) in
-        omega (arith, zeros)
-
-    outside : n < suc x → countBelow n (λ k. eqb x k) ≤ 1
-    outside h =
-        let e : countBelow n (λ k. eqb x k) ≡ 0 = total-zero n _ (λ k b. apart k (λ i. lt-irrefl x (omega arith))) in
-        omega arith
-
+-- a disjunction is counted at most twice, the numbers of a list at most as often as the list is long
 count-flip : (n x : ℕ) → countBelow n (λ k. eqb k x) ≤ 1
 count-flip n x =
     subst (λ f. total n f ≤ 1) (fun-ext (λ k. ap (λ b. weigh b 1) (test-eq (eqb x k) (eqb k x) (λ t. eq→eqb k x (sym (eqb→eq x k t))) (λ t. eq→eqb x k (sym (eqb→eq k x t))))))

@@ -3,6 +3,7 @@ pub mod Tests
 pub mod Lists
 pub mod Sums
 pub mod Pigeon
+pub mod Rising
 pub mod Cycle
 pub mod Theories
 pub mod Derivations

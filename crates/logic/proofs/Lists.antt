@@ -5,7 +5,7 @@ use native.Mathlib.Omega.{arith}
 use mathlib.Core.Path.{_≡_, refl, sym, _∙_, ap, subst, fun-ext}
 use mathlib.Core.Logic.{_⊎_, inl, inr, ⊎-elim}
 use mathlib.Core.Bool.{Bool, true, false, cond}
-use mathlib.Core.List.{List, [], _∷_, _++_, append-assoc, append-nil}
+use mathlib.Core.List.{List, [], _∷_, _++_, map, append-assoc, append-nil}
 use lib.Dec.{T, eqb, eqb→eq, eqb-refl}
 use lib.ListN.{length}
 use Rattle.logic.specs.Tests.{_and_, _or_, isnt, everyOf, someOf, member, empty, distinct, upto, pick}
@@ -145,3 +145,14 @@ pub filled-intro : (l : List ℕ) (x : ℕ) → T (member x l) → T (isnt (empt
 unfolding isnt empty
 filled-intro [] x m = absurd (member-nil x m)
 filled-intro (y ∷ l) x m = tt
+
+pub member-map-intro : (f : ℕ → ℕ) (l : List ℕ) (x : ℕ) → T (member x l) → T (member (f x) (map f l))
+member-map-intro f [] x m = absurd (member-nil x m)
+member-map-intro f (y ∷ l) x m =
+    ⊎-elim (λ e. subst (λ z. T (member (f x) (f z ∷ map f l))) e (member-here (f x) (map f l)))
+    (λ u. member-there (f x) (f y) (map f l) (member-map-intro f l x u)) (member-cons-elim x y l m)
+
+pub member-map : (f : ℕ → ℕ) (l : List ℕ) (x : ℕ) → T (member x (map f l)) → (y : ℕ) × T (member y l) × (x ≡ f y)
+member-map f [] x m = absurd (member-nil x m)
+member-map f (y ∷ l) x m =
+    ⊎-elim (λ e. (y, member-here y l, e)) (λ u. let (z, v, e) = member-map f l x u in (z, member-there z y l v, e)) (member-cons-elim x (f y) (map f l) m)

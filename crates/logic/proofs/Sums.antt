@@ -1,6 +1,7 @@
 -- Laws of sums and counts. Assumes nothing.
 use Prim.Native.Nat.{ℕ, zero, suc, _+_, _*_, _≤_, _<_}
 use native.Mathlib.Nat.{le-refl, le-step, lt-irrefl, add-zero, add-suc, zero-add, mul-zero, mul-suc, not-suc-le-zero, le-trans, zero-mul}
+use native.Mathlib.Numerals.{add-one}
 use native.Mathlib.Omega.{arith}
 use mathlib.Core.Path.{_≡_, refl, sym, _∙_, ap, ap₂, subst, fun-ext}
 use mathlib.Core.Logic.{_⊎_, inl, inr, ⊎-elim}
@@ -90,6 +91,12 @@ unfolding weigh
 weigh-le true n = le-refl n
 weigh-le false n = omega arith
 
+pub weigh-imply : (a b : Bool) (n : ℕ) → (T a → T b) → weigh a n ≤ weigh b n
+unfolding weigh
+weigh-imply true true n f = le-refl n
+weigh-imply true false n f = absurd (f tt)
+weigh-imply false b n f = omega arith
+
 pub count-upto : (n : ℕ) (p : ℕ → Bool) → length (pick (upto n) p) ≡ countBelow n p
 unfolding total upto pick
 count-upto zero p = refl
@@ -98,3 +105,8 @@ count-upto (suc n) p = ap length (pick-append (upto n) (n ∷ []) p) ∙ length-
     one : (b : Bool) → length (cond b (n ∷ []) []) ≡ weigh b 1
     one true = sym (weigh-true true 1 tt)
     one false = sym (weigh-false false 1 (λ t. t))
+
+-- one number more, as a loop counts
+pub total-next : (i : ℕ) (f : ℕ → ℕ) → total (i + 1) f ≡ total i f + f i
+unfolding total
+total-next i f = ap (λ k. total k f) (add-one i)

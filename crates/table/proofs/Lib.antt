@@ -1,3 +1,10 @@
 pub mod Reading
 pub mod Sections
 pub mod Joined
+pub mod Judging
+pub mod Bodies
+pub mod Legal
+pub mod Sorted
+pub mod Arrays
+pub mod Kahn
+pub mod Pairs

@@ -15,7 +15,7 @@ use Rattle.table.specs.declared.judge.Judgement.the-variants.{Accepted, 
 use Rattle.table.specs.Format.{sizesOf, spanOf, left, right, factsFrom, rulesFrom, entriesFrom, pairsFrom, theoryIn}
 
 -- The number of each refusal.
-unfoldable pub numberOf : Refusal → ℕ
+abbrev pub numberOf : Refusal → ℕ
 numberOf Truncated = 1
 numberOf TooLarge = 2
 numberOf WrongLength = 3
@@ -84,12 +84,15 @@ disorder b s = some 3 (λ k. isnt (every (sectionSize s k - 1) (rises b s k)))
 unfoldable pub cycle : List ℕ → Sizes → Bool
 cycle b s = cyclic (superior (theoryIn b s)) (s .rules)
 
--- "The lowest number that applies anywhere in the table is given." 1: "fewer than 10 bytes".
-unfoldable pub judgementOf : List ℕ → Judgement
-judgementOf b =
-    let s = sizesOf b in
-    cond (ltb (length b) 10) (Refused Truncated)
-    (cond (oversize s) (Refused TooLarge)
+-- "The lowest number that applies anywhere in the table is given.": by the sizes that were read, then from the first byte on.
+-- 1: "fewer than 10 bytes"
+unfoldable pub judged : List ℕ → Sizes → Judgement
+judged b s =
+    cond (oversize s) (Refused TooLarge)
     (cond (wrongLength b s) (Refused WrongLength)
     (cond (badKind b s) (Refused BadKind)
-    (cond (outOfRange b s) (Refused OutOfRange) (cond (disorder b s) (Refused Unsorted) (cond (cycle b s) (Refused Cyclic) (Accepted s)))))))
+    (cond (outOfRange b s) (Refused OutOfRange)
+    (cond (disorder b s) (Refused Unsorted) (cond (cycle b s) (Refused Cyclic) (Accepted s))))))
+
+unfoldable pub judgementOf : List ℕ → Judgement
+judgementOf b = cond (ltb (length b) 10) (Refused Truncated) (judged b (sizesOf b))

@@ -1,9 +1,13 @@
 // Document 01, What the console turns away: the judgement of a table.
 ghost use mathlib.Core.Path.{_≡_};
-ghost use Rattle.table.specs.Refusals.{oversize, judgementOf};
+ghost use Rattle.table.specs.Refusals.{numberOf, oversize, judgementOf};
+use crate::cycle::has_cycle;
 use crate::flags::either;
 use crate::format::Sizes;
 use crate::format::read_sizes;
+use crate::order::unsorted;
+use crate::range::bad_kind;
+use crate::range::out_of_range;
 
 // The refusals, with document 01's number and word. Numbers 8 and 9 are of the buffers of a run.
 pub enum Refusal {
@@ -27,6 +31,25 @@ pub enum Refusal {
     ShortLog,
 }
 
+impl Refusal {
+    // The number that document 01 fixes.
+    pub fn number(self) -> u16
+        ensures { λ r. ⌜ r ≡ numberOf self ⌝ }
+    {
+        match self {
+            Refusal::Truncated => 1,
+            Refusal::TooLarge => 2,
+            Refusal::WrongLength => 3,
+            Refusal::BadKind => 4,
+            Refusal::OutOfRange => 5,
+            Refusal::Unsorted => 6,
+            Refusal::Cyclic => 7,
+            Refusal::ShortScratch => 8,
+            Refusal::ShortLog => 9,
+        }
+    }
+}
+
 pub enum Judgement {
     Accepted(Sizes),
     Refused(Refusal),
@@ -42,4 +65,34 @@ fn too_large(s: Sizes) -> bool
         Sizes::MAX_ATOMS < s.atoms,
         either(Sizes::MAX_FACTS < s.facts, rules),
     )
+}
+
+// The lowest number that applies anywhere in the table, or none.
+pub fn judge(table: &[u8]) -> Judgement
+    ensures { λ r. ⌜ r ≡ judgementOf (now (table .entry)) ⌝ }
+{
+    if table.len() < 10 {
+        return Judgement::Refused(Refusal::Truncated);
+    }
+    let s = read_sizes(table);
+    if too_large(s) {
+        return Judgement::Refused(Refusal::TooLarge);
+    }
+    let expected = 10 + 4 * s.span();
+    if table.len() != expected {
+        return Judgement::Refused(Refusal::WrongLength);
+    }
+    if bad_kind(table, s) {
+        return Judgement::Refused(Refusal::BadKind);
+    }
+    if out_of_range(table, s) {
+        return Judgement::Refused(Refusal::OutOfRange);
+    }
+    if unsorted(table, s) {
+        return Judgement::Refused(Refusal::Unsorted);
+    }
+    if has_cycle(table, s) {
+        return Judgement::Refused(Refusal::Cyclic);
+    }
+    Judgement::Accepted(s)
 }

@@ -1,0 +1,81 @@
+-- `table::cycle::count_stronger` meets its contract. The loop's invariant: the counts are those of the pairs passed. Assumes nothing.
+use Prim.Native.Nat.{_-_, _≤_, _<_}
+use native.Mathlib.Omega.{arith}
+use mathlib.Core.Path.{_≡_}
+use lib.ListN.{length, length-set}
+use borrow.Author.Needs.{needs}
+use Rattle.table.specs.Format.{pairAt, theoryIn}
+use Rattle.table.proofs.Arrays.{tally-all, Tally, tally-none, tally-most, tally-next}
+use Rattle.table.proofs.Pairs.{weak-read, weak-small}
+use Rattle.table.proofs.cycle.count_stronger.Statement.{statement}
+use Rattle.table.proofs.cycle.count_stronger.Tie as tie
+
+abbrev Inv-loop : tie.InvT-loop
+Inv-loop table s degree₀ n i₀ degree i = (i ≤ n) × (length degree ≡ 1024) × Tally (λ k. pairAt table s k .weaker) degree i
+
+abbrev μ-loop : tie.MeasureT-loop
+μ-loop table s degree₀ n i₀ degree i = n - i
+
+small : (c : tie.After-slice-known2 Inv-loop μ-loop) → c .before .before .read-pair .result .weaker < 1024
+small c = weak-small _ _ (c .before .before .before .before .before .before .before .before .pre .0) _ _ (c .before .before .before .loop-test .taken) (c .before .before .read-pair .ensures)
+
+cast-n : tie.Need-cast-n Inv-loop μ-loop
+cast-n c = search needs
+
+loop-holds : tie.Need-loop-holds Inv-loop μ-loop
+loop-holds c = (omega arith, c .before .before .before .pre .1, tally-none _ _ (c .before .before .before .pre .2))
+
+read-pair-requires : tie.Need-read-pair-requires Inv-loop μ-loop
+read-pair-requires c κs = search needs
+
+cast-w : tie.Need-cast-w Inv-loop μ-loop
+cast-w c = search needs
+
+mul-degree : tie.Need-mul-degree Inv-loop μ-loop
+mul-degree c = search needs
+
+slice-read-degree : tie.Need-slice-read-degree Inv-loop μ-loop
+slice-read-degree c = omega (arith, small c)
+
+add-degree : tie.Need-add-degree Inv-loop μ-loop
+unfolding theoryIn
+add-degree c = let h : lib.ListN.getD (c .before .before .before .before .loop .degree) (c .before .before .read-pair .result .weaker) 0 ≤ c .before .before .before .before .loop .i = tally-most _ _ _ _ (c .before .before .before .before .loop .inv .2) (small c) in omega (arith, c .before .before .before .before .before .before .before .before .pre .0 .few)
+
+slice-write-degree : tie.Need-slice-write-degree Inv-loop μ-loop
+slice-write-degree c = omega (arith, small c)
+
+add-i : tie.Need-add-i Inv-loop μ-loop
+add-i c = search needs
+
+loop-less : tie.Need-loop-less Inv-loop μ-loop
+loop-less c = search needs
+
+loop-again : tie.Need-loop-again Inv-loop μ-loop
+unfolding theoryIn
+loop-again c = (omega arith, simp length-set (c .before .before .before .before .loop .inv .1), tally-next _ _ _ _ (weak-read _ _ _ _ (c .before .before .read-pair .ensures)) (omega (arith, small c)) (c .before .before .before .before .loop .inv .2))
+
+same-length : tie.Need-same-length Inv-loop μ-loop
+same-length c = search needs
+
+returns : tie.Need-returns Inv-loop μ-loop
+returns c = tally-all _ _ _ _ (c .before .loop .inv .0) (c .loop-test .left) (c .before .loop .inv .2) .at
+
+pub count-stronger-spec : {M : Type 1} → statement M
+count-stronger-spec =
+    tie.close
+    (tie.spec
+    Inv-loop
+    μ-loop
+    cast-n
+    loop-holds
+    read-pair-requires
+    cast-w
+    mul-degree
+    slice-read-degree
+    add-degree
+    slice-write-degree
+    add-i
+    loop-less
+    loop-again
+    same-length
+    returns)

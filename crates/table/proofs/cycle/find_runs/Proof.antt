@@ -1,0 +1,72 @@
+-- `table::cycle::find_runs` meets its contract. The loop's invariant: of the pairs from the i-th on, the first of each stronger rule is known. Assumes nothing.
+use Prim.Native.Nat.{_-_, _≤_, _<_}
+use native.Mathlib.Omega.{arith}
+use mathlib.Core.Path.{_≡_}
+use lib.ListN.{length, length-set}
+use borrow.Author.Needs.{needs}
+use Rattle.table.specs.Format.{theoryIn}
+use Rattle.table.proofs.Arrays.{RunsFrom, runs-none, runs-next, runs-all}
+use Rattle.table.proofs.Pairs.{strong-read, strong-small}
+use Rattle.table.proofs.cycle.find_runs.Statement.{statement}
+use Rattle.table.proofs.cycle.find_runs.Tie as tie
+
+abbrev Inv-loop : tie.InvT-loop
+Inv-loop table s first₀ i₀ first i = (i ≤ s .pairs) × (length first ≡ 1024) × RunsFrom (theoryIn table s) first i
+
+abbrev μ-loop : tie.MeasureT-loop
+μ-loop table s first₀ i₀ first i = i
+
+small : (c : tie.After-struct-known Inv-loop μ-loop) → c .before .read-pair .result .stronger < 1024
+small c = strong-small _ _ (c .before .before .before .before .before .before .pre .0) (c .before .before .before .loop .i - 1) _ (omega arith) (c .before .read-pair .ensures)
+
+loop-holds : tie.Need-loop-holds Inv-loop μ-loop
+unfolding theoryIn
+loop-holds c = (omega arith, c .before .before .pre .1, runs-none (theoryIn (c .before .before .args .table .now) (c .before .before .args .s)) _ _ (omega arith))
+
+sub-i : tie.Need-sub-i Inv-loop μ-loop
+sub-i c = search needs
+
+cast-read-pair : tie.Need-cast-read-pair Inv-loop μ-loop
+cast-read-pair c = search needs
+
+read-pair-requires : tie.Need-read-pair-requires Inv-loop μ-loop
+read-pair-requires c κs = search needs
+
+cast-r : tie.Need-cast-r Inv-loop μ-loop
+cast-r c = search needs
+
+mul-first : tie.Need-mul-first Inv-loop μ-loop
+mul-first c = search needs
+
+slice-write-first : tie.Need-slice-write-first Inv-loop μ-loop
+slice-write-first c = omega (arith, small c)
+
+loop-less : tie.Need-loop-less Inv-loop μ-loop
+loop-less c = search needs
+
+loop-again : tie.Need-loop-again Inv-loop μ-loop
+loop-again c = (omega arith, simp length-set (c .before .before .before .loop .inv .1), runs-next _ _ _ _ (c .before .before .loop-test .taken) (strong-read _ _ _ _ (c .before .read-pair .ensures)) (omega (arith, small c)) (c .before .before .before .loop .inv .2))
+
+same-length : tie.Need-same-length Inv-loop μ-loop
+same-length c = search needs
+
+returns : tie.Need-returns Inv-loop μ-loop
+returns c = runs-all _ _ _ (omega arith) (c .before .loop .inv .2)
+
+pub find-runs-spec : {M : Type 1} → statement M
+find-runs-spec =
+    tie.close
+    (tie.spec
+    Inv-loop
+    μ-loop
+    loop-holds
+    sub-i
+    cast-read-pair
+    read-pair-requires
+    cast-r
+    mul-first
+    slice-write-first
+    loop-less
+    loop-again
+    same-length
+    returns)

@@ -1,0 +1,118 @@
+-- `table::cycle::release` meets its contract. The loop's invariant is `Telling` of proofs/Arrays.antt: the pairs told are those of the rules taken up before, and this rule's own below `i`. Assumes nothing.
+use Prim.Native.Nat.{_<_, _-_, _≤_}
+use native.Mathlib.Omega.{arith}
+use mathlib.Core.Path.{sym, _∙_, _≡_}
+use lib.ListN.{length, getD}
+use borrow.Author.Needs.{needs}
+use Rattle.table.specs.Format.{theoryIn}
+use Rattle.table.proofs.Arrays.{taken-small, Telling, telling-start, telling-end, telling-waits, telling-room, telling-next}
+use Rattle.table.proofs.Pairs.{strong-read, weak-read, weak-small}
+use Rattle.table.proofs.cycle.release.Statement.{statement}
+use Rattle.table.proofs.cycle.release.Tie as tie
+
+abbrev Inv-loop : tie.InvT-loop
+Inv-loop table s first degree₀ queue₀ next end n r last₀ i₀ degree queue last i = (getD first (getD queue₀ next 0) 0 ≤ i) × Telling (theoryIn table s) queue₀ next degree queue last i
+
+abbrev μ-loop : tie.MeasureT-loop
+μ-loop table s first degree₀ queue₀ next end n r last₀ i₀ degree queue last i = n - i
+
+small : (c : tie.After-wide Inv-loop μ-loop) → c .wide .result < 1024
+small c = taken-small _ _ _ _ _ _ _ (c .before .before .before .before .before .before .before .pre .0 .0) (c .before .before .before .before .before .before .before .pre .0 .2) (c .before .before .before .before .before .before .before .pre .1 .3) (omega (arith, c .before .before .before .before .before .before .before .pre .1)) (c .wide .ensures)
+
+-- the place of the rule that is taken up is within the queue's array
+within : (c : tie.At-loop Inv-loop μ-loop) → c .before .before .before .before .before .before .before .before .before .before .args .next < length (c .before .before .before .before .before .before .before .before .before .before .args .queue .now)
+within c = omega (arith, c .before .before .before .before .before .before .before .before .before .before .pre .1)
+
+below : (c : tie.Else1 Inv-loop μ-loop) → c .before .before .before .before .loop .i < theoryIn (c .before .before .before .before .before .before .before .before .before .before .before .before .before .before .args .table .now) (c .before .before .before .before .before .before .before .before .before .before .before .before .before .before .args .s) .pairs
+unfolding theoryIn
+below c = c .before .before .before .loop-test .taken
+
+of-rule : (c : tie.Else1 Inv-loop μ-loop) → theoryIn (c .before .before .before .before .before .before .before .before .before .before .before .before .before .before .args .table .now) (c .before .before .before .before .before .before .before .before .before .before .before .before .before .before .args .s) .pair (c .before .before .before .before .loop .i) .stronger ≡ getD (c .before .before .before .before .before .before .before .before .before .before .before .before .before .before .args .queue .now) (c .before .before .before .before .before .before .before .before .before .before .before .before .before .before .args .next) 0
+of-rule c = sym (strong-read _ _ _ _ (c .before .before .read-pair .ensures)) ∙ c .if1 .left
+
+room : (c : tie.Else1 Inv-loop μ-loop) → c .before .before .before .before .loop .last < 1024
+room c = omega (arith, telling-room _ _ _ (within (c .before .before .before .before)) (c .before .before .before .before .before .before .before .before .before .before .before .before .before .before .pre .0 .0) _ _ _ _ (c .before .before .before .before .loop .inv .1) (below c) (of-rule c), c .before .before .before .before .before .before .before .before .before .before .before .before .before .before .pre .0 .0 .small)
+
+cast-n : tie.Need-cast-n Inv-loop μ-loop
+cast-n c = search needs
+
+mul-r : tie.Need-mul-r Inv-loop μ-loop
+mul-r c = search needs
+
+slice-read-r : tie.Need-slice-read-r Inv-loop μ-loop
+slice-read-r c = search needs
+
+wide-requires : tie.Need-wide-requires Inv-loop μ-loop
+wide-requires c κs = search needs
+
+mul-wide : tie.Need-mul-wide Inv-loop μ-loop
+mul-wide c = omega (arith, small c)
+
+shared-slice-read-wide : tie.Need-shared-slice-read-wide Inv-loop μ-loop
+shared-slice-read-wide c = omega (arith, small (c .before), c .before .before .before .before .before .before .before .before .pre .1)
+
+wide-requires-2 : tie.Need-wide-requires-2 Inv-loop μ-loop
+wide-requires-2 c κs = search needs
+
+loop-holds : tie.Need-loop-holds Inv-loop μ-loop
+loop-holds c = telling-start _ _ _ (omega (arith, c .before .before .before .before .before .before .before .before .before .pre .1)) _ _ _ _ _ (c .before .before .before .before .before .before .before .before .before .pre .0 .1) (c .before .before .before .before .before .before .before .before .before .pre .0 .2) (c .before .before .before .before .before .before .before .before .before .pre .1 .1) (c .before .before .before .before .before .before .before .before .before .pre .1 .2) (c .before .before .before .before .before .before .before .before .before .pre .1 .3) (c .before .before .before .before .before .before .before .before .before .pre .1 .4) (c .before .before .wide .ensures) (c .wide2 .ensures)
+
+read-pair-requires : tie.Need-read-pair-requires Inv-loop μ-loop
+read-pair-requires c κs = search needs
+
+same-length : tie.Need-same-length Inv-loop μ-loop
+same-length c = search needs
+
+same-length-2 : tie.Need-same-length-2 Inv-loop μ-loop
+same-length-2 c = search needs
+
+returns : tie.Need-returns Inv-loop μ-loop
+returns c = (c .before .before .before .before .loop .inv .1 .ahead, c .before .before .before .before .loop .inv .1 .most, telling-end _ _ _ (within (c .before .before .before .before)) (c .before .before .before .before .before .before .before .before .before .before .before .before .before .before .pre .0 .0) _ _ _ _ (c .before .before .before .before .loop .inv .1) _ (c .before .before .before .before .before .before .before .before .before .before .before .before .before .before .pre .0 .1) (c .before .before .before .before .loop .inv .0) (λ _ e. c .if1 .taken (strong-read _ _ _ _ (c .before .before .read-pair .ensures) ∙ e)))
+
+tell-requires : tie.Need-tell-requires Inv-loop μ-loop
+tell-requires c κs = (omega (arith, weak-small _ _ (c .before .before .before .before .before .before .before .before .before .before .before .before .before .before .before .before .pre .0 .0) _ _ (c .before .before .before .before .before .loop-test .taken) (c .before .before .before .before .read-pair .ensures), c .before .before .before .before .before .before .loop .inv .1 .degrees), telling-waits _ _ _ (within (c .before .before .before .before .before .before)) (c .before .before .before .before .before .before .before .before .before .before .before .before .before .before .before .before .pre .0 .0) _ _ _ _ (c .before .before .before .before .before .before .loop .inv .1) (below (c .before .before)) (of-rule (c .before .before)) _ (weak-read _ _ _ _ (c .before .before .before .before .read-pair .ensures)), omega (arith, room (c .before .before), c .before .before .before .before .before .before .loop .inv .1 .places))
+
+add-i : tie.Need-add-i Inv-loop μ-loop
+add-i c = search needs
+
+loop-less : tie.Need-loop-less Inv-loop μ-loop
+loop-less c = search needs
+
+loop-again : tie.Need-loop-again Inv-loop μ-loop
+loop-again c = (omega (arith, c .before .before .before .before .before .before .before .before .before .before .before .loop .inv .0), telling-next _ _ _ (within (c .before .before .before .before .before .before .before .before .before .before .before)) (c .before .before .before .before .before .before .before .before .before .before .before .before .before .before .before .before .before .before .before .before .before .pre .0 .0) _ _ _ _ (c .before .before .before .before .before .before .before .before .before .before .before .loop .inv .1) (below (c .before .before .before .before .before .before .before)) (of-rule (c .before .before .before .before .before .before .before)) _ _ _ _ (weak-read _ _ _ _ (c .before .before .before .before .before .before .before .before .before .read-pair .ensures)) (c .before .before .before .before .tell .ensures .0) (c .before .before .before .before .tell .ensures .1) (c .before .before .before .before .tell .kept .1 .1 .0))
+
+same-length-3 : tie.Need-same-length-3 Inv-loop μ-loop
+same-length-3 c = search needs
+
+same-length-4 : tie.Need-same-length-4 Inv-loop μ-loop
+same-length-4 c = search needs
+
+returns-2 : tie.Need-returns-2 Inv-loop μ-loop
+unfolding theoryIn
+returns-2 c = (c .before .loop .inv .1 .ahead, c .before .loop .inv .1 .most, telling-end _ _ _ (within (c .before)) (c .before .before .before .before .before .before .before .before .before .before .before .pre .0 .0) _ _ _ _ (c .before .loop .inv .1) _ (c .before .before .before .before .before .before .before .before .before .before .before .pre .0 .1) (c .before .loop .inv .0) (λ h _. absurd (omega arith)))
+
+pub release-spec : {M : Type 1} → statement M
+release-spec =
+    tie.close
+    (tie.spec
+    Inv-loop
+    μ-loop
+    cast-n
+    mul-r
+    slice-read-r
+    wide-requires
+    mul-wide
+    shared-slice-read-wide
+    wide-requires-2
+    loop-holds
+    read-pair-requires
+    same-length
+    same-length-2
+    returns
+    tell-requires
+    add-i
+    loop-less
+    loop-again
+    same-length-3
+    same-length-4
+    returns-2)

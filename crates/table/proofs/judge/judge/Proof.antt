@@ -1,0 +1,103 @@
+use Rattle.table.proofs.Judging.{flag, wrong-length, right-length, judged-short, judged-by, judged-2, judged-3, judged-4, judged-5, judged-6, judged-7, judged-0}
+use borrow.Author.Needs.{needs}
+use Rattle.table.proofs.judge.judge.Statement.{statement}
+use Rattle.table.proofs.judge.judge.Tie as tie
+use Rattle.table.proofs.judge.judge.Reads as reads
+use Rattle.table.proofs.judge.judge.Lts as lts
+use Rattle.table.proofs.cycle.has_cycle.Reads as has-cycle-reads
+use Rattle.table.proofs.format.Sizes.span.Reads as span-reads
+use Rattle.table.proofs.format.read_sizes.Reads as read-sizes-reads
+use Rattle.table.proofs.judge.too_large.Reads as too-large-reads
+use Rattle.table.proofs.order.unsorted.Reads as unsorted-reads
+use Rattle.table.proofs.range.bad_kind.Reads as bad-kind-reads
+use Rattle.table.proofs.range.out_of_range.Reads as out-of-range-reads
+
+-- src/judge.rt:56:9
+returns : tie.Need-returns
+returns c = judged-short _ (c .if1 .taken)
+
+-- src/judge.rt:58:9
+read-sizes-requires : tie.Need-read-sizes-requires
+read-sizes-requires c κs = search needs
+
+-- src/judge.rt:59:8
+too-large-requires : tie.Need-too-large-requires
+too-large-requires c κs = search needs
+
+-- src/judge.rt:60:9
+returns-2 : tie.Need-returns-2
+returns-2 c = judged-by _ _ _ (c .before .before .read-sizes .ensures) (c .before .before .before .if1 .left) (judged-2 _ _ (flag (c .before .too-large .ensures) (c .if2 .taken)))
+
+-- src/judge.rt:62:29
+span-requires : tie.Need-span-requires
+span-requires c κs = search needs
+
+-- src/judge.rt:62:25
+mul-expected : tie.Need-mul-expected
+mul-expected c = search needs
+
+-- src/judge.rt:62:20
+add-expected : tie.Need-add-expected
+add-expected c = search needs
+
+-- src/judge.rt:64:9
+returns-3 : tie.Need-returns-3
+returns-3 c = judged-by _ _ _ (c .before .before .before .before .read-sizes .ensures) (c .before .before .before .before .before .if1 .left) (judged-3 _ _ (flag (c .before .before .before .too-large .ensures) (c .before .before .if2 .left)) (wrong-length _ _ _ (c .before .span .ensures) (c .if3 .taken)))
+
+-- src/judge.rt:66:8
+bad-kind-requires : tie.Need-bad-kind-requires
+bad-kind-requires c κs = search needs
+
+-- src/judge.rt:67:9
+returns-4 : tie.Need-returns-4
+returns-4 c = judged-by _ _ _ (c .before .before .before .before .before .before .read-sizes .ensures) (c .before .before .before .before .before .before .before .if1 .left) (judged-4 _ _ (flag (c .before .before .before .before .before .too-large .ensures) (c .before .before .before .before .if2 .left)) (right-length _ _ _ (c .before .before .before .span .ensures) (c .before .before .if3 .left)) (flag (c .before .bad-kind .ensures) (c .if4 .taken)))
+
+-- src/judge.rt:69:8
+out-of-range-requires : tie.Need-out-of-range-requires
+out-of-range-requires c κs = search needs
+
+-- src/judge.rt:70:9
+returns-5 : tie.Need-returns-5
+returns-5 c = judged-by _ _ _ (c .before .before .before .before .before .before .before .before .read-sizes .ensures) (c .before .before .before .before .before .before .before .before .before .if1 .left) (judged-5 _ _ (flag (c .before .before .before .before .before .before .before .too-large .ensures) (c .before .before .before .before .before .before .if2 .left)) (right-length _ _ _ (c .before .before .before .before .before .span .ensures) (c .before .before .before .before .if3 .left)) (flag (c .before .before .before .bad-kind .ensures) (c .before .before .if4 .left)) (flag (c .before .out-of-range .ensures) (c .if5 .taken)))
+
+-- src/judge.rt:72:8
+unsorted-requires : tie.Need-unsorted-requires
+unsorted-requires c κs = search needs
+
+-- src/judge.rt:73:9
+returns-6 : tie.Need-returns-6
+returns-6 c = judged-by _ _ _ (c .before .before .before .before .before .before .before .before .before .before .read-sizes .ensures) (c .before .before .before .before .before .before .before .before .before .before .before .if1 .left) (judged-6 _ _ (flag (c .before .before .before .before .before .before .before .before .before .too-large .ensures) (c .before .before .before .before .before .before .before .before .if2 .left)) (right-length _ _ _ (c .before .before .before .before .before .before .before .span .ensures) (c .before .before .before .before .before .before .if3 .left)) (flag (c .before .before .before .before .before .bad-kind .ensures) (c .before .before .before .before .if4 .left)) (flag (c .before .before .before .out-of-range .ensures) (c .before .before .if5 .left)) (flag (c .before .unsorted .ensures) (c .if6 .taken)))
+
+-- src/judge.rt:75:8
+has-cycle-requires : tie.Need-has-cycle-requires
+has-cycle-requires c κs = ((flag (c .before .before .before .before .before .before .before .before .before .too-large .ensures) (c .before .before .before .before .before .before .before .before .if2 .left)), (flag (c .before .before .before .out-of-range .ensures) (c .before .before .if5 .left)), (flag (c .before .unsorted .ensures) (c .if6 .left)))
+
+-- src/judge.rt:76:9
+returns-7 : tie.Need-returns-7
+returns-7 c = judged-by _ _ _ (c .before .before .before .before .before .before .before .before .before .before .before .before .read-sizes .ensures) (c .before .before .before .before .before .before .before .before .before .before .before .before .before .if1 .left) (judged-7 _ _ (flag (c .before .before .before .before .before .before .before .before .before .before .before .too-large .ensures) (c .before .before .before .before .before .before .before .before .before .before .if2 .left)) (right-length _ _ _ (c .before .before .before .before .before .before .before .before .before .span .ensures) (c .before .before .before .before .before .before .before .before .if3 .left)) (flag (c .before .before .before .before .before .before .before .bad-kind .ensures) (c .before .before .before .before .before .before .if4 .left)) (flag (c .before .before .before .before .before .out-of-range .ensures) (c .before .before .before .before .if5 .left)) (flag (c .before .before .before .unsorted .ensures) (c .before .before .if6 .left)) (flag (c .before .has-cycle .ensures) (c .if7 .taken)))
+
+-- src/judge.rt:52:1
+returns-8 : tie.Need-returns-8
+returns-8 c = judged-by _ _ _ (c .before .before .before .before .before .before .before .before .before .before .before .before .read-sizes .ensures) (c .before .before .before .before .before .before .before .before .before .before .before .before .before .if1 .left) (judged-0 _ _ (flag (c .before .before .before .before .before .before .before .before .before .before .before .too-large .ensures) (c .before .before .before .before .before .before .before .before .before .before .if2 .left)) (right-length _ _ _ (c .before .before .before .before .before .before .before .before .before .span .ensures) (c .before .before .before .before .before .before .before .before .if3 .left)) (flag (c .before .before .before .before .before .before .before .bad-kind .ensures) (c .before .before .before .before .before .before .if4 .left)) (flag (c .before .before .before .before .before .out-of-range .ensures) (c .before .before .before .before .if5 .left)) (flag (c .before .before .before .unsorted .ensures) (c .before .before .if6 .left)) (flag (c .before .has-cycle .ensures) (c .if7 .left)))
+
+pub judge-spec : {M : Type 1} → statement M
+judge-spec =
+    tie.close
+    (tie.spec
+    returns
+    read-sizes-requires
+    too-large-requires
+    returns-2
+    span-requires
+    mul-expected
+    add-expected
+    returns-3
+    bad-kind-requires
+    returns-4
+    out-of-range-requires
+    returns-5
+    unsorted-requires
+    returns-6
+    has-cycle-requires
+    returns-7
+    returns-8)

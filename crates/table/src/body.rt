@@ -1,0 +1,62 @@
+// Document 01, The table: "The antecedents of one rule are handed back as the part of the table's own right array".
+ghost use Prim.Native.Nat.{ℕ, _+_, _*_, _≤_, _<_};
+ghost use mathlib.Core.Path.{_≡_};
+ghost use lib.Dec.{ltb};
+ghost use lib.ListN.{length};
+ghost use Rattle.logic.specs.Tests.{countBelow, weigh};
+ghost use Rattle.table.specs.Format.{entryAt, spanOf};
+ghost use Rattle.table.specs.Bodies.{entriesBelow, bodyPart, Body};
+use crate::format::Sizes;
+use crate::format::read_entry;
+use crate::judge::Judgement;
+use crate::judge::judge;
+
+fn add_if(n: usize, test: bool) -> usize
+    requires { ⌜ n < 65535 ⌝ }
+    ensures { λ r. ⌜ r ≡ n + weigh test 1 ⌝ }
+{
+    if test { n + 1 } else { n }
+}
+
+// How many entries are of rules below r.
+fn entries_below(table: &[u8], s: Sizes, r: usize) -> usize
+    ensures { λ x. ⌜ x ≡ entriesBelow (now (table .entry)) s r ⌝ }
+{
+    let end = s.entries as usize;
+    let mut n: usize = 0;
+    let mut i: usize = 0;
+    while i < end {
+        let e = read_entry(table, s, i);
+        n = add_if(n, (e.rule as usize) < r);
+        i += 1;
+    }
+    n
+}
+
+// The part of the right array that holds the entries of rule r, where the file has its length.
+fn part_of(table: &[u8], s: Sizes, r: usize) -> &[u8]
+    requires { ⌜ length (now table) ≡ 10 + 4 * spanOf s ⌝ }
+    ensures { λ x. ⌜ now x ≡ bodyPart (now (table .entry)) s r ⌝ }
+{
+    let n = s.rules as usize;
+    if r < n {
+        let from = 10 + 2 * (s.span() + (s.facts as usize + n));
+        let start = from + 2 * entries_below(table, s, r);
+        let end = from + 2 * entries_below(table, s, r + 1);
+        &table[start..end]
+    } else {
+        &table[0..0]
+    }
+}
+
+// The antecedents of rule r as bytes of the table: no bytes for a rule without entries, a rule number not below N, or a table that
+// is refused.
+pub fn body(table: &[u8], r: usize) -> &[u8]
+    ensures { λ x. ⌜ Body (now (table .entry)) r (now x) ⌝ }
+{
+    let j = judge(table);
+    match j {
+        Judgement::Accepted(s) => part_of(table, s, r),
+        Judgement::Refused(_) => &table[0..0],
+    }
+}

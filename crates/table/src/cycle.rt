@@ -1,0 +1,152 @@
+// Fault 7 of document 01: Kahn's algorithm on the pairs, in local arrays. A rule is released once every rule that is stronger than
+// it was released; there is a cycle exactly if some rule never is.
+ghost use Prim.Native.Nat.{ℕ, _+_, _-_, _≤_, _<_};
+ghost use mathlib.Core.Path.{_≡_};
+ghost use mathlib.Core.Bool.{false};
+ghost use lib.Dec.{eqb};
+ghost use lib.ListN.{length, getD, take, set};
+ghost use Rattle.logic.specs.Tests.{countBelow};
+ghost use Rattle.table.specs.Format.{pairAt, theoryIn};
+ghost use Rattle.table.specs.Refusals.{outOfRange, oversize, disorder, cycle};
+ghost use Rattle.table.specs.Release.{Ordered, Runs, Zeros, Reached, Pushed};
+use crate::format::Sizes;
+use crate::format::read_pair;
+
+// How many pairs name each rule as the weaker.
+fn count_stronger(table: &[u8], s: Sizes, degree: &mut [u16])
+    requires { ⌜ Ordered (theoryIn (now table) s) × (length (now degree) ≡ 1024) × ((w : ℕ) → w < 1024 → getD (now degree) w 0 ≡ 0) ⌝ }
+    ensures { λ _. ⌜ ((w : ℕ) → w < 1024 → getD (now (degree .exit)) w 0 ≡ countBelow (s .pairs) (λ i. eqb (pairAt (now (table .entry)) s i .weaker) w)) ⌝ }
+{
+    let n = s.pairs as usize;
+    let mut i: usize = 0;
+    while i < n {
+        let p = read_pair(table, s, i);
+        let w = p.weaker as usize;
+        degree[w] += 1;
+        i += 1;
+    }
+}
+
+// Where the pairs of each stronger rule begin.
+fn find_runs(table: &[u8], s: Sizes, first: &mut [u16])
+    requires { ⌜ Ordered (theoryIn (now table) s) × (length (now first) ≡ 1024) ⌝ }
+    ensures { λ _. ⌜ Runs (theoryIn (now (table .entry)) s) (now (first .exit)) ⌝ }
+{
+    let mut i: u16 = s.pairs;
+    while 0 < i {
+        i -= 1;
+        let p = read_pair(table, s, i as usize);
+        let r = p.stronger as usize;
+        first[r] = i;
+    }
+}
+
+// The queue with one more rule at its end, if the test says so.
+fn push_if(queue: &mut [u16], end: usize, rule: u16, test: bool) -> usize
+    requires { ⌜ end < length (now queue) ⌝ }
+    ensures { λ r. ⌜ Pushed test rule (now (queue .entry)) end (now (queue .exit)) r ⌝ }
+{
+    if test {
+        queue[end] = rule;
+        end + 1
+    } else {
+        end
+    }
+}
+
+// The rules that no rule is stronger than.
+fn start(n: u16, degree: &[u16], queue: &mut [u16]) -> usize
+    requires { ⌜ (n ≤ length (now degree)) × (n ≤ length (now queue)) ⌝ }
+    ensures { λ r. ⌜ (r ≤ n) × Zeros n (now (degree .entry)) (take r (now (queue .exit))) ⌝ }
+{
+    let mut end: usize = 0;
+    let mut r: u16 = 0;
+    while r < n {
+        end = push_if(queue, end, r, degree[r as usize] == 0);
+        r += 1;
+    }
+    end
+}
+
+// A rule waits for one stronger rule less, and is released if it waits for none.
+fn tell(w: u16, degree: &mut [u16], queue: &mut [u16], end: usize) -> usize
+    requires { ⌜ (w < length (now degree)) × (1 ≤ getD (now degree) w 0) × (end < length (now queue)) ⌝ }
+    ensures { λ r. ⌜ (now (degree .exit) ≡ set (now (degree .entry)) w (getD (now (degree .entry)) w 0 - 1)) × Pushed (eqb (getD (now (degree .entry)) w 0 - 1) 0) w (now (queue .entry)) end (now (queue .exit)) r ⌝ }
+{
+    let left = degree[w as usize] - 1;
+    degree[w as usize] = left;
+    push_if(queue, end, w, left == 0)
+}
+
+// A word as an index.
+fn wide(n: u16) -> usize
+    ensures { λ r. ⌜ r ≡ n ⌝ }
+{
+    n as usize
+}
+
+// The next rule of the queue is taken up: each pair in which it is the stronger counts no more.
+fn release(
+    table: &[u8],
+    s: Sizes,
+    first: &[u16],
+    degree: &mut [u16],
+    queue: &mut [u16],
+    next: usize,
+    end: usize,
+) -> usize
+    requires { ⌜ Ordered (theoryIn (now table) s) × Runs (theoryIn (now table) s) (now first) × Reached (theoryIn (now table) s) next end (now degree) (now queue) ⌝ }
+    requires { ⌜ (length (now first) ≡ 1024) × (length (now degree) ≡ 1024) × (length (now queue) ≡ 1024) × (next < end) × (end ≤ 1024) ⌝ }
+    ensures { λ r. ⌜ (next < r) × (r ≤ 1024) × Reached (theoryIn (now (table .entry)) s) (next + 1) r (now (degree .exit)) (now (queue .exit)) ⌝ }
+{
+    let n = s.pairs as usize;
+    let r = queue[next];
+    let mut last = end;
+    let mut i = wide(first[wide(r)]);
+    while i < n {
+        let p = read_pair(table, s, i);
+        if p.stronger != r {
+            return last;
+        }
+        last = tell(p.weaker, degree, queue, last);
+        i += 1;
+    }
+    last
+}
+
+// How many rules are released in all.
+fn released(
+    table: &[u8],
+    s: Sizes,
+    first: &[u16],
+    degree: &mut [u16],
+    queue: &mut [u16],
+    start: usize,
+) -> usize
+    requires { ⌜ Ordered (theoryIn (now table) s) × Runs (theoryIn (now table) s) (now first) × Reached (theoryIn (now table) s) 0 start (now degree) (now queue) ⌝ }
+    requires { ⌜ (length (now first) ≡ 1024) × (length (now degree) ≡ 1024) × (length (now queue) ≡ 1024) × (start ≤ 1024) ⌝ }
+    ensures { λ r. ⌜ (r ≤ 1024) × Reached (theoryIn (now (table .entry)) s) r r (now (degree .exit)) (now (queue .exit)) ⌝ }
+{
+    let mut end = start;
+    let mut next: usize = 0;
+    while next < end {
+        end = release(table, s, first, degree, queue, next, end);
+        next += 1;
+    }
+    end
+}
+
+// 7: the pairs lead from some rule back to itself.
+pub fn has_cycle(table: &[u8], s: Sizes) -> bool
+    requires { ⌜ (oversize s ≡ false) × (outOfRange (now table) s ≡ false) × (disorder (now table) s ≡ false) ⌝ }
+    ensures { λ r. ⌜ r ≡ cycle (now (table .entry)) s ⌝ }
+{
+    let mut degree = [0u16; 1024];
+    let mut first = [0u16; 1024];
+    let mut queue = [0u16; 1024];
+    count_stronger(table, s, &mut degree);
+    find_runs(table, s, &mut first);
+    let end = start(s.rules, &degree, &mut queue);
+    let all = released(table, s, &first, &mut degree, &mut queue, end);
+    all < s.rules as usize
+}
