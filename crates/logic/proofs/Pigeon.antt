@@ -60,12 +60,12 @@ count-is-one n x h =
       arith,
       total-zero n (λ _. 0) (λ k _. refl),
       total-point n (λ _. 0) (λ k. weigh (eqb x k) 1) x 1 h (weigh-true (eqb x x) 1 (eqb-refl x))
-      (λ k _ o. weigh-false (eqb x k) 1 (λ t. o (sym (eqb→eq x k t)))),
+          (λ k _ o. weigh-false (eqb x k) 1 (λ t. o (sym (eqb→eq x k t)))),
     )
 
 pub count-one : (n x : ℕ) → countBelow n (λ k. eqb x k) ≤ 1
 count-one n x =
     ⊎-elim (λ h. le-of-eq (count-is-one n x h))
     (λ h. let e : countBelow n (λ k. eqb x k) ≡ 0 =
-        total-zero n _ (λ k b. weigh-false (eqb x k) 1 (λ t. lt-irrefl x (subst (λ z. z < x) (sym (eqb→eq x k t)) (lt-of-lt-of-le b (le-of-suc-le-suc h))))) in omega arith)
+    total-zero n _ (λ k b. weigh-false (eqb x k) 1 (λ t. lt-irrefl x (subst (λ z. z < x) (sym (eqb→eq x k t)) (lt-of-lt-of-le b (le-of-suc-le-suc h))))) in omega arith)
     (at-most (suc x) n)

@@ -104,7 +104,7 @@ module _ (p : ℕ → Bool) where
   count-down (suc n) f i h t =
       ⊎-elim
       (λ u. let e : weigh (p n) 1 ≡ 1 = weigh-true (p n) 1 u in
-          let a : countBelow n p ≡ n = count-all n (λ j k. f j n k (le-refl (suc n)) u) in omega arith)
+      let a : countBelow n p ≡ n = count-all n (λ j k. f j n k (le-refl (suc n)) u) in omega arith)
       (λ u. ⊎-elim (λ k. let a : i < countBelow n p = count-down n (λ a c l k. f a c l (le-step k)) i k t in omega arith) (λ e. absurd (u (subst (λ z. T (p z)) e t))) (lt-suc-cases i n h))
       (test-cases (p n))
 
@@ -114,6 +114,6 @@ module _ (p : ℕ → Bool) where
   count-up (suc n) f i h =
       ⊎-elim
       (λ u. let e : weigh (p n) 1 ≡ 1 = weigh-true (p n) 1 u in
-          let b : countBelow n p ≤ n = count-le n p in
-          ⊎-elim (λ k. f i n k (le-refl (suc n)) u) (λ k. subst (λ z. T (p z)) (sym k) u) (lt-suc-cases i n (omega arith)))
+      let b : countBelow n p ≤ n = count-le n p in
+      ⊎-elim (λ k. f i n k (le-refl (suc n)) u) (λ k. subst (λ z. T (p z)) (sym k) u) (lt-suc-cases i n (omega arith)))
       (λ u. let e : weigh (p n) 1 ≡ 0 = weigh-false (p n) 1 u in count-up n (λ a c l k. f a c l (le-step k)) i (omega arith)) (test-cases (p n))

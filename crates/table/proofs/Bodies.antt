@@ -48,7 +48,7 @@ pub part-read : (b : List ℕ) (s : Sizes) (r span x y : ℕ) {l : List ℕ} →
 unfolding bodyPart
 part-read b s r span x y h e f g i =
     i ∙ ap (λ k. take (10 + 2 * (k + entriesFrom s) + 2 * y - (10 + 2 * (k + entriesFrom s) + 2 * x)) (drop (10 + 2 * (k + entriesFrom s) + 2 * x) b)) e
-        ∙ ap₂ (λ k m. take (entryByte s m - entryByte s k) (drop (entryByte s k) b)) f g ∙ sym (cond-true (ltb r (s .rules)) _ _ (lt→ltb r (s .rules) h))
+    ∙ ap₂ (λ k m. take (entryByte s m - entryByte s k) (drop (entryByte s k) b)) f g ∙ sym (cond-true (ltb r (s .rules)) _ _ (lt→ltb r (s .rules) h))
 
 pub part-none : (b : List ℕ) (s : Sizes) (r : ℕ) → s .rules ≤ r → [] ≡ bodyPart b s r
 unfolding bodyPart
@@ -70,7 +70,7 @@ rising-shift a (suc n) =
     subst (λ k. T (risingFrom 0 k)) (sym (map-append (λ j. a + j) (upto n) (n ∷ [])))
     (rising-snoc 0 (map (λ j. a + j) (upto n)) (a + n) (omega arith) (rising-shift a n)
     (λ z m. let (j, u, e) = member-map (λ i. a + i) (upto n) z m in
-        let h : j < n = member-upto n j u in omega arith))
+    let h : j < n = member-upto n j u in omega arith))
 
 -- the words of a part of a file
 word-inside : (l : List ℕ) (j : ℕ) → 2 * j + 1 < length l → word l j ≡ getD l (2 * j) 0 + 256 * getD l (2 * j + 1) 0
@@ -83,7 +83,7 @@ part-length b k m h = simp (length-take, length-drop) (omega arith)
 part-word : (b : List ℕ) (k m j : ℕ) → 2 * (k + m) ≤ length b → j < m → word (take (2 * m) (drop (2 * k) b)) j ≡ word b (k + j)
 part-word b k m j h l =
     word-inside (take (2 * m) (drop (2 * k) b)) j (omega (arith, part-length b k m h)) ∙ ap₂ (λ x y. x + 256 * y) (byte (2 * j) _ (omega arith) (omega arith)) (byte (2 * j + 1) _ (omega arith) (omega arith))
-        ∙ sym (word-inside b (k + j) (omega arith))
+    ∙ sym (word-inside b (k + j) (omega arith))
   where
     byte : (i n : ℕ) → i < 2 * m → 2 * k + i ≡ n → getD (take (2 * m) (drop (2 * k) b)) i 0 ≡ getD b n 0
     byte i n v e = getD-take (2 * m) (drop (2 * k) b) i 0 v ∙ getD-drop (2 * k) b i 0 ∙ ap (λ z. getD b z 0) e
@@ -151,8 +151,8 @@ module _ (b : List ℕ) (s : Sizes) (w : length b ≡ 10 + 4 * spanOf s) (o : di
   unfolding bodyPart bodyIn a z rule
   body-words h =
       ap wordsOf part ∙ ap (λ n. map (word (take (2 * (z - a)) (drop (2 * k) b))) (upto n)) half
-          ∙ map-same _ (λ j. entryAt b s (a + j) .literal .0) (upto (z - a)) (λ j m. literal j (member-upto (z - a) j m))
-          ∙ sym (map-map (λ i. entryAt b s i .literal .0) (λ j. a + j) (upto (z - a))) ∙ ap (map (λ i. entryAt b s i .literal .0)) run
+      ∙ map-same _ (λ j. entryAt b s (a + j) .literal .0) (upto (z - a)) (λ j m. literal j (member-upto (z - a) j m))
+      ∙ sym (map-map (λ i. entryAt b s i .literal .0) (λ j. a + j) (upto (z - a))) ∙ ap (map (λ i. entryAt b s i .literal .0)) run
     where
       k : ℕ
       k = 5 + (spanOf s + entriesFrom s) + a
@@ -166,7 +166,7 @@ module _ (b : List ℕ) (s : Sizes) (w : length b ≡ 10 + 4 * spanOf s) (o : di
       part : cond (ltb r (s .rules)) (take (entryByte s z - entryByte s a) (drop (entryByte s a) b)) [] ≡ take (2 * (z - a)) (drop (2 * k) b)
       part =
           cond-true (ltb r (s .rules)) _ [] (lt→ltb r (s .rules) h)
-              ∙ ap₂ (λ x y. take x (drop y b)) (let e : entryByte s z - entryByte s a ≡ 2 * (z - a) = omega arith in e) (let e : entryByte s a ≡ 2 * k = omega arith in e)
+          ∙ ap₂ (λ x y. take x (drop y b)) (let e : entryByte s z - entryByte s a ≡ 2 * (z - a) = omega arith in e) (let e : entryByte s a ≡ 2 * k = omega arith in e)
 
       fits : 2 * (k + (z - a)) ≤ length b
       fits = omega (arith, first, last)
@@ -177,7 +177,7 @@ module _ (b : List ℕ) (s : Sizes) (w : length b ≡ 10 + 4 * spanOf s) (o : di
       literal : (j : ℕ) → j < z - a → word (take (2 * (z - a)) (drop (2 * k) b)) j ≡ entryAt b s (a + j) .literal .0
       literal j l =
           part-word b k (z - a) j fits l ∙ ap (word b) (let e : k + j ≡ 5 + spanOf s + (entriesFrom s + (a + j)) = omega arith in e)
-              ∙ sym (right-in b s (entriesFrom s) (s .entries) (a + j) (omega (arith, last)))
+          ∙ sym (right-in b s (entriesFrom s) (s .entries) (a + j) (omega (arith, last)))
 
 -- what is handed back, by the judgement
 pub accepted-body : (b : List ℕ) (r : ℕ) (s : Sizes) (l : List ℕ) → judgementOf b ≡ Accepted s → l ≡ bodyPart b s r → Body b r l

@@ -179,8 +179,8 @@ module _ (b : List ℕ) (s : Sizes) (g : Ranged b s) where
       (and-intro _ _ (every-intro (s .facts) _ (λ i h. lt→ltb _ _ (below-right (factsFrom s) (s .facts) i (2 * s .atoms) h (g .facts i h))))
       (every-intro (s .rules) _ (λ r h. lt→ltb _ _ (head-below r h))))
       (every-intro (s .rules) _ (λ r h. everyOf-intro (bodyIn b s r) _ (λ q m.
-          let (i, k, _, e) = body-entry r q m in
-          lt→ltb _ _ (subst (λ z. z < 2 * s .atoms) (sym e) (literal-below i k))))))
+      let (i, k, _, e) = body-entry r q m in
+      lt→ltb _ _ (subst (λ z. z < 2 * s .atoms) (sym e) (literal-below i k))))))
       (every-intro (s .pairs) _ (λ i h. and-intro _ _ (lt→ltb _ _ (stronger-below i h)) (lt→ltb _ _ (weaker-below i h))))
 
   -- the bodies hold each entry once: B in all
@@ -188,18 +188,20 @@ module _ (b : List ℕ) (s : Sizes) (g : Ranged b s) where
   unfolding theoryIn bodyIn
   all-entries =
       total-ext (s .rules) _ _ (λ r _. length-map (pick (upto (s .entries)) (λ i. eqb (entryAt b s i .rule) r)) (λ i. entryAt b s i .literal .0)
-          ∙ count-upto (s .entries) (λ i. eqb (entryAt b s i .rule) r))
-          ∙ total-swap (s .rules) (s .entries) (λ r i. weigh (eqb (entryAt b s i .rule) r) 1)
-          ∙ total-ext (s .entries) _ (λ _. 1) (λ i h. count-is-one (s .rules) (entryAt b s i .rule) (rule-below i h)) ∙ total-const (s .entries) 1 ∙ mul-one (s .entries)
+      ∙ count-upto (s .entries) (λ i. eqb (entryAt b s i .rule) r))
+      ∙ total-swap (s .rules) (s .entries) (λ r i. weigh (eqb (entryAt b s i .rule) r) 1)
+      ∙ total-ext (s .entries) _ (λ _. 1) (λ i h. count-is-one (s .rules) (entryAt b s i .rule) (rule-below i h)) ∙ total-const (s .entries) 1 ∙ mul-one (s .entries)
 
   -- without atoms there is nothing
   pub no-atoms : s .atoms ≡ 0 → (s .facts ≡ 0) × (s .rules ≡ 0) × (s .entries ≡ 0) × (s .pairs ≡ 0)
   no-atoms e =
       let none : (i : ℕ) → i < s .rules → ruleAt b s i .head .0 < 0 = λ i h. subst (λ a. ruleAt b s i .head .0 < 2 * a) e (head-below i h) in
-      let rules : s .rules ≡ 0 = nothing (s .rules) _ none in
-      (nothing (s .facts) _ (λ i h. subst (λ a. right b s (factsFrom s + i) < 2 * a) e (g .facts i h)), rules
-      , nothing (s .entries) _ (λ i h. subst (λ n. entryAt b s i .rule < n) rules (rule-below i h))
-      , nothing (s .pairs) _ (λ i h. subst (λ n. pairAt b s i .stronger < n) rules (stronger-below i h)))
+      let rules : s .rules ≡ 0 = nothing (s .rules) _ none in (
+        nothing (s .facts) _ (λ i h. subst (λ a. right b s (factsFrom s + i) < 2 * a) e (g .facts i h)),
+        rules,
+        nothing (s .entries) _ (λ i h. subst (λ n. entryAt b s i .rule < n) rules (rule-below i h)),
+        nothing (s .pairs) _ (λ i h. subst (λ n. pairAt b s i .stronger < n) rules (stronger-below i h)),
+      )
 
 -- an accepted table's superiority has no cycle
 pub no-cycle : (b : List ℕ) (s : Sizes) → Legal b s → Cycle (superior (theoryIn b s)) → ⊥
