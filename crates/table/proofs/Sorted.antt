@@ -1,6 +1,6 @@
 -- The ordered sections of an accepted table rise from any place to any later one. Assumes nothing.
 use Prim.Native.Nat.{ℕ, zero, suc, _+_, _-_, _≤_, _<_}
-use native.Mathlib.Nat.{lt-trans, le-of-lt, le-of-eq, not-suc-le-zero}
+use native.Mathlib.Nat.{lt-trans, lt-irrefl, le-of-lt, le-of-eq, not-suc-le-zero}
 use native.Mathlib.Numerals.{add-one}
 use native.Mathlib.Omega.{arith}
 use mathlib.Core.Path.{_≡_, refl, sym, _∙_, ap, subst}
@@ -30,6 +30,12 @@ pub before-left : (l r m q : ℕ) → Before l r m q → l ≤ m
 unfolding Before
 before-left l r m q (inl a) = le-of-lt a
 before-left l r m q (inr a) = le-of-eq (a .0)
+
+-- where the left words are equal, the right words rise
+pub before-right : (l r m q : ℕ) → l ≡ m → Before l r m q → r < q
+unfolding Before
+before-right l r m q e (inl a) = absurd (lt-irrefl m (subst (λ z. z < m) e a))
+before-right l r m q e (inr a) = a .1
 
 before-same : {l l′ r r′ m m′ q q′ : ℕ} → l ≡ l′ → r ≡ r′ → m ≡ m′ → q ≡ q′ → Before l r m q → Before l′ r′ m′ q′
 before-same e f g h t = coe 0 1 (i. Before (e i) (f i) (g i) (h i)) t
