@@ -20,7 +20,8 @@ fn put(bytes: &mut [u8], i: usize, w: u16) {
     }
 }
 
-fn put_all(bytes: &mut [u8], words: &[u16]) {
+// Puts words from the start on.
+pub fn put_all(bytes: &mut [u8], words: &[u16]) {
     let mut i: usize = 0;
     while i < words.len() {
         put(bytes, i, words[i]);

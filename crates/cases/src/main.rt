@@ -1,6 +1,9 @@
 // Runs the cases that are not theorems: the vectors of base.bin, and tables made by hand. Each group prints one line: how many
 // cases there were, and how many of them gave what they must.
+mod buffers;
+mod lengths;
 mod made;
+mod noise;
 mod records;
 mod refusals;
 mod tally;
@@ -17,7 +20,10 @@ fn main() {
     }
     let mut file = io::large_buffer();
     let n = io::read_full(fd, &mut file);
-    vectors::judge_all(&file[..n]).print(STDOUT_FILENO, b"tables");
     libc::close(fd);
+    let tried = vectors::try_all(&file[..n]);
+    tried.judged.print(STDOUT_FILENO, b"tables");
     refusals::refuse_all().print(STDOUT_FILENO, b"refusals");
+    tried.ran.print(STDOUT_FILENO, b"runs");
+    lengths::run_all().print(STDOUT_FILENO, b"lengths");
 }

@@ -38,6 +38,17 @@ pub fn word_at(bytes: &[u8], at: usize) -> u16 {
     join(bytes[at], bytes[at + 1])
 }
 
+// The number of four bytes at a byte, 0 where they are not within the bytes.
+pub fn long_at(bytes: &[u8], at: usize) -> u32 {
+    if bytes.len() < 4 {
+        return 0;
+    }
+    if bytes.len() - 4 < at {
+        return 0;
+    }
+    word_at(bytes, at) as u32 + 65536 * (word_at(bytes, at + 2) as u32)
+}
+
 // The bytes from one place to another, none where they are not within the bytes.
 pub fn part(bytes: &[u8], from: usize, to: usize) -> &[u8] {
     if bytes.len() < to {

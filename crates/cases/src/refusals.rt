@@ -6,7 +6,7 @@ use crate::made::verdict_of;
 use crate::made::verdict_sized;
 use crate::tally::Tally;
 
-const CASE_1: [u16; 15] = [2, 1, 2, 1, 1, 0, 1, 1, 0, 0, 0, 2, 3, 0, 1];
+pub const CASE_1: [u16; 15] = [2, 1, 2, 1, 1, 0, 1, 1, 0, 0, 0, 2, 3, 0, 1];
 
 // 1 and 3: the number of bytes.
 fn lengths(t: Tally) -> Tally {

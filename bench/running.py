@@ -1,0 +1,36 @@
+#!/usr/bin/env python3
+"""running.py SHAPE K: a legal table of a shape at 1/K of the limits, on standard output.
+chain: each literal rests on the one before; star: all rules on one atom, pairs among them; teams: for each atom two rules beat two;
+random: seeded. SHAPE none: nine 0 bytes, the baseline."""
+import random, struct, sys
+shape, k = sys.argv[1], int(sys.argv[2])
+def table(a, facts, rules, pairs):
+    rules = list(rules)
+    entries = [(i, q) for i, (_, _, body) in enumerate(rules) for q in sorted(set(body))]
+    rows = [(0, f) for f in sorted(set(facts))] + [(kind, head) for kind, head, _ in rules] + entries + sorted(set(pairs))
+    sizes = [a, len(set(facts)), len(rules), len(entries), len(set(pairs))]
+    words = sizes + [l for l, r in rows] + [r for l, r in rows]
+    sys.stdout.buffer.write(struct.pack('<%dH' % len(words), *words))
+if shape == 'none':
+    sys.stdout.buffer.write(bytes(9))
+elif shape == 'chain':
+    a, n = 512 // k, 1024 // k
+    table(a, [0], [(1, 2 * (1 + i % (a - 1)), [2 * (i % (a - 1))]) for i in range(n)], [])
+elif shape == 'star':
+    n, p = 1024 // k, 2048 // k
+    table(1, [], [(1, i % 2, []) for i in range(n)], [(i // 4, i // 4 + 1 + 2 * (i % 4)) for i in range(p)])
+elif shape == 'teams':
+    a = 1024 // (4 * k)
+    rules = [(1, 2 * (i // 4) + (i % 4) // 2, [2 * (a + (i * 7) % a)] ) for i in range(4 * a)]
+    pairs = [(4 * j, 4 * j + 2) for j in range(a)] + [(4 * j + 1, 4 * j + 3) for j in range(a)]
+    table(2 * a, [2 * (a + j) for j in range(a)], rules, pairs)
+elif shape == 'random':
+    rnd = random.Random(k)
+    a, f, n, b, p = 512 // k, 64 // k, 1024 // k, 4096 // k, 2048 // k
+    rules = [[rnd.choice([0, 1, 1, 2]), rnd.randrange(2 * a), set()] for _ in range(n)]
+    while sum(len(r[2]) for r in rules) < b:
+        rnd.choice(rules)[2].add(rnd.randrange(2 * a))
+    pairs = set()
+    while len(pairs) < p:
+        t, s = sorted(rnd.sample(range(n), 2)); pairs.add((t, s))
+    table(a, rnd.sample(range(2 * a), f), rules, pairs)

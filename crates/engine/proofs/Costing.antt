@@ -1,0 +1,389 @@
+-- The cost of a conclusion, by the uses of its literal and the words of the rules that use it. Assumes nothing.
+use Prim.Native.Nat.{ℕ, zero, suc, _+_, _-_, _*_, _/_, _%_, _≤_, _<_}
+use native.Mathlib.Nat.{add-zero, lt-irrefl, le-antisymm, mod-lt, eq-or-lt-of-le}
+use native.Mathlib.Omega.{arith}
+use mathlib.Core.Path.{_≡_, refl, sym, _∙_, ap, ap₂, subst}
+use mathlib.Core.Logic.{_⊎_, inl, inr, ⊎-elim}
+use mathlib.Core.Bool.{Bool, true, false, cond, not}
+use mathlib.Core.List.{List, [], _∷_, _++_, map}
+use lib.Dec.{T, ltb, ltb→lt, lt→ltb, eqb, eqb→eq, eqb-refl, eqb·suc-suc, eqb·suc-zero}
+use lib.ListN.{length}
+use borrow.Author.Tests.{lt-ltb}
+use Rattle.logic.specs.Tests.{_and_, _or_, isnt, member, distinct, total, weigh, countBelow, upto, pick}
+use Rattle.logic.specs.Theory.{Theory, kindOf, bodyOf, isStrict}
+use Rattle.logic.specs.Inference.{allHave, oneHas}
+use Rattle.logic.specs.Reading.{visits, visited, decided, decides, naming, costOf, taggedBy, systemOf}
+use Rattle.logic.specs.Plain.{plainSystem}
+use Rattle.logic.proofs.Tests.{test-cases, at-most, test-eq, someOf-intro, true-of, of-false, cond-true, cond-false, eq→eqb, and-intro, and-left, and-right, or-left, or-right, or-elim, isnt-intro, isnt-elim}
+use Rattle.logic.proofs.Lists.{member-here, member-there, member-cons-elim, member-nil, member-map, member-map-intro, member-pick, member-upto, member-upto-intro, distinct-pick, distinct-upto, pick-append, filled-intro}
+use Rattle.logic.proofs.Sums.{total-ext, total-next, total-add, weigh-true, weigh-false, count-upto}
+use Rattle.logic.proofs.Bodies.{all-moves, one-moves}
+use Rattle.logic.proofs.Literals.{join-split, split-below}
+use Rattle.table.specs.declared.format.Sizes.{Sizes}
+use Rattle.table.specs.declared.judge.Judgement.the-variants.{Accepted}
+use Rattle.table.specs.Format.{entryAt, bodyIn, theoryIn}
+use Rattle.table.specs.Refusals.{judgementOf}
+use Rattle.table.proofs.Legal.{legal, limited}
+use Rattle.table.proofs.Sorted.{entries-rise, before-right}
+use Rattle.engine.specs.Memory.{view, useAt, has, sizeF, kindF, namingF, usesF, usesFrom, heldOf, Ready, extra, antecedents}
+use Rattle.engine.specs.Api.{adds}
+use Rattle.engine.specs.Deciding.{settledBy, priceBy}
+use Rattle.engine.proofs.Counting.{pick-all}
+use Rattle.engine.proofs.Following.{fires-defeasibly, out-defeasibly}
+use Rattle.engine.proofs.Marks.{kind-strict, or-false, not-isnt}
+
+-- a sum over a list
+sumOf : (ℕ → ℕ) → List ℕ → ℕ
+sumOf f [] = 0
+sumOf f (x ∷ l) = f x + sumOf f l
+
+sum-append : (f : ℕ → ℕ) (l k : List ℕ) → sumOf f (l ++ k) ≡ sumOf f l + sumOf f k
+unfolding sumOf
+sum-append f [] k = omega arith
+sum-append f (x ∷ l) k = let e : sumOf f (l ++ k) ≡ sumOf f l + sumOf f k = sum-append f l k in omega arith
+
+sum-map : (f g : ℕ → ℕ) (l : List ℕ) → sumOf f (map g l) ≡ sumOf (λ k. f (g k)) l
+unfolding sumOf
+sum-map f g [] = refl
+sum-map f g (x ∷ l) = ap (f (g x) +_) (sum-map f g l)
+
+-- the sum over the numbers below n that pass
+sum-pick : (n : ℕ) (p : ℕ → Bool) (f : ℕ → ℕ) → sumOf f (pick (upto n) p) ≡ total n (λ k. weigh (p k) (f k))
+unfolding sumOf total upto pick
+sum-pick zero p f = refl
+sum-pick (suc n) p f =
+    ap (sumOf f) (pick-append (upto n) (n ∷ []) p) ∙ sum-append f (pick (upto n) p) _ ∙ ap₂ _+_ (sum-pick n p f) (one (p n))
+  where
+    one : (b : Bool) → sumOf f (cond b (n ∷ []) []) ≡ weigh b (f n)
+    one true = add-zero (f n) ∙ sym (weigh-true true (f n) tt)
+    one false = sym (weigh-false false (f n) (λ t. t))
+
+sum-upto : (n : ℕ) (f : ℕ → ℕ) → sumOf f (upto n) ≡ total n f
+unfolding sumOf total upto
+sum-upto zero f = refl
+sum-upto (suc n) f = sum-append f (upto n) (n ∷ []) ∙ ap₂ _+_ (sum-upto n f) (add-zero (f n))
+
+-- the sum over places is the sum over what stands there
+pub sum-listed : (n m : ℕ) (g : ℕ → ℕ) (p : ℕ → Bool) (f : ℕ → ℕ) → map g (upto n) ≡ pick (upto m) p
+    → total n (λ k. f (g k)) ≡ total m (λ k. weigh (p k) (f k))
+sum-listed n m g p f e = sym (sum-upto n (λ k. f (g k))) ∙ sym (sum-map f g (upto n)) ∙ ap (sumOf f) e ∙ sum-pick m p f
+
+-- a list has the same that pass by two tests that agree on it
+pub pick-same : (l : List ℕ) (p q : ℕ → Bool) → ((y : ℕ) → T (member y l) → q y ≡ p y) → pick l q ≡ pick l p
+unfolding pick
+pick-same [] p q e = refl
+pick-same (x ∷ l) p q e =
+    ap₂ (λ b k. cond b (x ∷ k) k) (e x (member-here x l)) (pick-same l p q (λ y m. e y (member-there y x l m)))
+
+both-longer : (z : ℕ) (k l : List ℕ) (b : Bool) → length l ≡ length k + 1 → length (cond b (z ∷ l) l) ≡ length (cond b (z ∷ k) k) + 1
+both-longer z k l true s = omega arith
+both-longer z k l false s = s
+
+-- a distinct list has one more that passes where one of it passes more
+pub pick-more : (l : List ℕ) (p q : ℕ → Bool) (x : ℕ) → T (distinct l) → T (member x l) → (T (p x) → ⊥) → T (q x)
+    → ((y : ℕ) → (y ≡ x → ⊥) → q y ≡ p y) → length (pick l q) ≡ length (pick l p) + 1
+unfolding pick distinct
+pick-more [] p q x t m n u e = absurd (member-nil x m)
+pick-more (z ∷ l) p q x t m n u e =
+    ⊎-elim here (λ v. there v (pick-more l p q x (and-right _ _ t) v n u e)) (member-cons-elim x z l m)
+  where
+    here : x ≡ z → length (cond (q z) (z ∷ pick l q) (pick l q)) ≡ length (cond (p z) (z ∷ pick l p) (pick l p)) + 1
+    here i =
+        let f : length (pick l q) ≡ length (pick l p) =
+        ap length (pick-same l p q (λ y v. e y (λ j. isnt-elim _ (and-left _ _ t) (subst (λ k. T (member k l)) (j ∙ i) v)))) in
+        let a : length (cond (q z) (z ∷ pick l q) (pick l q)) ≡ suc (length (pick l q)) = ap length (cond-true (q z) _ _ (subst (λ k. T (q k)) i u)) in
+        let c : length (cond (p z) (z ∷ pick l p) (pick l p)) ≡ length (pick l p) =
+        ap length (cond-false (p z) _ _ (λ v. n (subst (λ k. T (p k)) (sym i) v))) in
+        omega arith
+
+    there : T (member x l) → length (pick l q) ≡ length (pick l p) + 1
+        → length (cond (q z) (z ∷ pick l q) (pick l q)) ≡ length (cond (p z) (z ∷ pick l p) (pick l p)) + 1
+    there v s =
+        ap (λ b. length (cond b (z ∷ pick l q) (pick l q))) (e z (λ i. isnt-elim _ (and-left _ _ t) (subst (λ k. T (member k l)) (sym i) v)))
+        ∙ both-longer z (pick l p) (pick l q) (p z) s
+
+-- a map that tells the elements of a distinct list apart keeps it distinct
+pub distinct-map : (f : ℕ → ℕ) (l : List ℕ) → T (distinct l) → ((x y : ℕ) → T (member x l) → T (member y l) → f x ≡ f y → x ≡ y) → T (distinct (map f l))
+unfolding distinct
+distinct-map f [] t o = tt
+distinct-map f (x ∷ l) t o =
+    and-intro _ _
+    (isnt-intro _ (λ m. let (y, v, e) = member-map f l (f x) m in
+    isnt-elim _ (and-left _ _ t) (subst (λ z. T (member z l)) (sym (o x y (member-here x l) (member-there y x l v) e)) v)))
+    (distinct-map f l (and-right _ _ t) (λ y z u v. o y z (member-there y x l u) (member-there z x l v)))
+
+weigh-both : (a b : Bool) (n : ℕ) → weigh a (weigh b n) ≡ weigh (a and b) n
+unfolding weigh _and_
+weigh-both true b n = refl
+weigh-both false b n = refl
+
+-- a count is 0 or above 0
+none-or-above : (n : ℕ) → eqb n 0 ≡ isnt (ltb 0 n)
+unfolding isnt
+none-or-above zero = refl
+none-or-above (suc n) = eqb·suc-zero n ∙ ap isnt (sym (lt-ltb 0 (suc n) (omega arith)))
+
+-- what is decided newly, by which of the two tests grows
+grown-all : (a b o : Bool) → ((b or o) and isnt (a or o)) ≡ (isnt a and isnt o and b)
+unfolding _and_ _or_ isnt
+grown-all true true true = refl
+grown-all true true false = refl
+grown-all true false true = refl
+grown-all true false false = refl
+grown-all false true true = refl
+grown-all false true false = refl
+grown-all false false true = refl
+grown-all false false false = refl
+
+grown-one : (a o : Bool) → ((a or true) and isnt (a or o)) ≡ (isnt a and isnt o and true)
+unfolding _and_ _or_ isnt
+grown-one true true = refl
+grown-one true false = refl
+grown-one false true = refl
+grown-one false false = refl
+
+true-left : (a b : Bool) → (true and a and b) ≡ (a and b)
+unfolding _and_
+true-left a b = refl
+
+false-or : (a b : Bool) → (T a → ⊥) → b ≡ (a or b)
+false-or a b n = test-eq _ _ (or-right a b) (λ t. ⊎-elim (λ u. absurd (n u)) (λ u. u) (or-elim a b t))
+
+true-or : (a b : Bool) → T a → true ≡ (a or b)
+true-or a b t = sym (true-of _ (or-left a b t))
+
+added : (x l w v u : ℕ) → x ≡ v + u → l ≡ v → w ≡ u → 1 + x ≡ 1 + l + w
+added x l w v u e f g = omega arith
+
+two-or-three : (t : ℕ) → 2 ≤ t → t < 4 → (t ≡ 2) ⊎ (t ≡ 3)
+two-or-three t h k = ⊎-elim (λ u. inl (eqb→eq t 2 u)) (λ n. inr (let o : t ≡ 2 → ⊥ = λ e. n (eq→eqb t 2 e) in omega arith)) (test-cases (eqb t 2))
+
+module _ (d : Theory) (m : List ℕ) (ready : Ready d m) (p t : ℕ) (tag : t < 4) (new : heldOf m (4 * p + t) ≡ false) where
+  abbrev before : ℕ → ℕ → Bool
+  before = taggedBy 4 (heldOf m)
+
+  abbrev after : ℕ → ℕ → Bool
+  after = taggedBy 4 (adds (heldOf m) (4 * p + t))
+
+  -- another conclusion is held after as before
+  other-held : (a u : ℕ) → (4 * a + u ≡ 4 * p + t → ⊥) → after a u ≡ before a u
+  other-held a u n = or-false _ _ (λ e. n (eqb→eq _ _ e))
+
+  other-tag : (a u : ℕ) → u < 4 → (u ≡ t → ⊥) → after a u ≡ before a u
+  other-tag a u h n = other-held a u (λ e. n (omega arith))
+
+  other-literal : (a u : ℕ) → u < 4 → (a ≡ p → ⊥) → after a u ≡ before a u
+  other-literal a u h n = other-held a u (λ e. n (omega arith))
+
+  now-held : T (after p t)
+  now-held = or-right (heldOf m (4 * p + t)) _ (eqb-refl (4 * p + t))
+
+  -- a rule that does not use p is decided by no tag of p
+  all-same : (u r : ℕ) → ((a : ℕ) → T (member a (bodyOf d r)) → after a u ≡ before a u) → allHave d after u r ≡ allHave d before u r
+  all-same u r e = test-eq _ _ (all-moves d after before u r (λ a v. subst T (e a v))) (all-moves d before after u r (λ a v. subst T (sym (e a v))))
+
+  one-same : (u r : ℕ) → ((a : ℕ) → T (member a (bodyOf d r)) → after a u ≡ before a u) → oneHas d after u r ≡ oneHas d before u r
+  one-same u r e = test-eq _ _ (one-moves d after before u r (λ a v. subst T (e a v))) (one-moves d before after u r (λ a v. subst T (sym (e a v))))
+
+  unused : (r : ℕ) → (T (member p (bodyOf d r)) → ⊥) → T (decides d 1 before after r) → ⊥
+  unfolding decides
+  unused r n u =
+      isnt-elim _ (and-right _ _ u)
+      (subst T (ap₂ _or_ (all-same 2 r (same 2 (omega arith))) (one-same 3 r (same 3 (omega arith)))) (and-right _ _ (and-left _ _ u)))
+    where
+      same : (v : ℕ) → v < 4 → (a : ℕ) → T (member a (bodyOf d r)) → after a v ≡ before a v
+      same v h a i = other-literal a v h (λ e. n (subst (λ z. T (member z (bodyOf d r))) e i))
+
+  module _ (r : ℕ) (l : r < d .rules) (apart : T (distinct (bodyOf d r))) (used : T (member p (bodyOf d r))) where
+    -- the antecedents with +∂ grow by one
+    all-after : t ≡ 2 → allHave d after 2 r ≡ eqb (view m (has 2) r + 1) (view m sizeF r)
+    unfolding allHave extra
+    all-after e =
+        let more : length (pick (bodyOf d r) (λ a. after a 2)) ≡ length (pick (bodyOf d r) (λ a. before a 2)) + 1 =
+        pick-more (bodyOf d r) (λ a. before a 2) (λ a. after a 2) p apart used (λ v. of-false _ new (subst (λ z. T (before p z)) (sym e) v))
+        (subst (λ z. T (after p z)) e now-held) (λ a n. other-literal a 2 (omega arith) n) in
+        let told : view m (has 2) r ≡ 1 + length (pick (bodyOf d r) (λ a. before a 2)) = ready .told 2 r (omega arith) l in
+        let words : suc (length (pick (bodyOf d r) (λ a. after a 2))) ≡ view m (has 2) r + 1 = omega arith in
+        sym (pick-all (bodyOf d r) (λ a. after a 2)) ∙ sym (eqb·suc-suc (length (pick (bodyOf d r) (λ a. after a 2))) (length (bodyOf d r)))
+        ∙ ap₂ eqb words (sym (ready .standing .index .sizes r l))
+
+    -- one antecedent has −∂
+    one-after : t ≡ 3 → T (oneHas d after 3 r)
+    unfolding oneHas
+    one-after e = someOf-intro (bodyOf d r) (λ a. after a 3) p used (subst (λ z. T (after p z)) e now-held)
+
+    -- the rule was open
+    open-before : (c : Bool) → (isnt (allHave d before 2 r) and isnt (oneHas d before 3 r) and c)
+        ≡ (isnt (eqb (view m (has 2) r) (view m sizeF r)) and eqb (view m (has 3) r) 0 and c)
+    open-before c =
+        ap (_and c)
+        (ap₂ _and_ (ap isnt (sym (fires-defeasibly d m ready r l))) (ap isnt (sym (out-defeasibly d m ready r l)) ∙ sym (none-or-above (view m (has 3) r))))
+
+    settles : (t ≡ 2) ⊎ (t ≡ 3) → decides d 1 before after r ≡ settledBy (view m) t r
+    unfolding decides
+    settles c = ap (λ b. b and decided d 1 after r and isnt (decided d 1 before r)) (true-of _ (filled-intro (bodyOf d r) p used)) ∙ true-left _ _ ∙ ⊎-elim by-all by-one c
+      where
+        by-all : t ≡ 2 → (decided d 1 after r and isnt (decided d 1 before r)) ≡ settledBy (view m) t r
+        by-all e =
+            ap (λ b. b and isnt (decided d 1 before r)) (ap₂ _or_ (all-after e) (one-same 3 r (λ a _. other-tag a 3 (omega arith) (λ f. omega arith))))
+            ∙ grown-all (allHave d before 2 r) (eqb (view m (has 2) r + 1) (view m sizeF r)) (oneHas d before 3 r) ∙ open-before _
+            ∙ ap (λ b. isnt (eqb (view m (has 2) r) (view m sizeF r)) and eqb (view m (has 3) r) 0 and b)
+            (false-or (eqb t 3) (eqb (view m (has 2) r + 1) (view m sizeF r)) (λ u. let f : t ≡ 3 = eqb→eq t 3 u in omega arith))
+
+        by-one : t ≡ 3 → (decided d 1 after r and isnt (decided d 1 before r)) ≡ settledBy (view m) t r
+        by-one e =
+            ap (λ b. b and isnt (decided d 1 before r))
+            (ap₂ _or_ (all-same 2 r (λ a _. other-tag a 2 (omega arith) (λ f. omega arith))) (true-of (oneHas d after 3 r) (one-after e)))
+            ∙ grown-one (allHave d before 2 r) (oneHas d before 3 r) ∙ open-before true
+            ∙ ap (λ b. isnt (eqb (view m (has 2) r) (view m sizeF r)) and eqb (view m (has 3) r) 0 and b)
+            (true-or (eqb t 3) (eqb (view m (has 2) r + 1) (view m sizeF r)) (eq→eqb t 3 e))
+
+  -- what a rule adds to the cost of a definite tag, and of a defeasible one
+  definite-part : t < 2 → (r : ℕ) → r < d .rules → weigh (member p (bodyOf d r)) (priceBy (view m) t r) ≡ weigh (visits d 0 p r) 1
+  unfolding visits priceBy
+  definite-part h r l =
+      ap (weigh (member p (bodyOf d r))) (cond-true (ltb t 2) _ _ (lt→ltb t 2 h) ∙ ap (λ b. weigh b 1) (ap (λ k. eqb k 0) (ready .standing .index .kinds r l) ∙ kind-strict (kindOf d r)))
+      ∙ weigh-both (member p (bodyOf d r)) (isStrict (kindOf d r)) 1
+      ∙ ap (λ b. weigh (member p (bodyOf d r) and b) 1) (false-or (isnt (eqb 0 0)) (isStrict (kindOf d r)) (λ u. isnt-elim (eqb 0 0) u tt))
+
+  defeasible-part : (t ≡ 2) ⊎ (t ≡ 3) → (r : ℕ) → r < d .rules → T (distinct (bodyOf d r))
+      → weigh (member p (bodyOf d r)) (priceBy (view m) t r) ≡ weigh (visits d 1 p r) 1 + weigh (decides d 1 before after r) (naming d r)
+  unfolding visits priceBy
+  defeasible-part c r l apart = ⊎-elim yes no (test-cases (member p (bodyOf d r)))
+    where
+      late : T (ltb t 2) → ⊥
+      late u = let h : t < 2 = ltb→lt t 2 u in ⊎-elim (λ e. omega arith) (λ e. omega arith) c
+
+      yes : T (member p (bodyOf d r))
+          → weigh (member p (bodyOf d r)) (priceBy (view m) t r) ≡ weigh (visits d 1 p r) 1 + weigh (decides d 1 before after r) (naming d r)
+      yes u =
+          weigh-true _ _ u ∙ cond-false (ltb t 2) _ _ late
+          ∙ ap₂ _+_ (sym (weigh-true (visits d 1 p r) 1 (and-intro _ _ u (or-left _ _ (isnt-intro (eqb 1 0) (λ v. v))))))
+          (ap₂ weigh (sym (settles r l apart u c)) (ready .standing .index .namings r l))
+
+      no : (T (member p (bodyOf d r)) → ⊥)
+          → weigh (member p (bodyOf d r)) (priceBy (view m) t r) ≡ weigh (visits d 1 p r) 1 + weigh (decides d 1 before after r) (naming d r)
+      no n =
+          weigh-false _ _ n ∙ ap₂ _+_ (sym (weigh-false (visits d 1 p r) 1 (λ u. n (and-left _ _ u)))) (sym (weigh-false _ _ (unused r n)))
+
+  pub cost-by : ((r : ℕ) → r < d .rules → T (distinct (bodyOf d r)))
+      → 1 + total (d .rules) (λ r. weigh (member p (bodyOf d r)) (priceBy (view m) t r)) ≡ costOf d (t / 2) p before after
+  cost-by apart = ⊎-elim defeasible definite (at-most 2 t)
+    where
+      definite : t < 2 → 1 + total (d .rules) (λ r. weigh (member p (bodyOf d r)) (priceBy (view m) t r)) ≡ costOf d (t / 2) p before after
+      definite h =
+          let e : t / 2 ≡ 0 = omega arith in
+          let c : costOf d (t / 2) p before after ≡ costOf d 0 p before after = ap (λ f. costOf d f p before after) e in
+          let z : weigh (isnt (eqb 0 0)) (total (d .rules) (λ r. weigh (decides d 0 before after r) (naming d r))) ≡ 0 = weigh-false _ _ (λ u. isnt-elim (eqb 0 0) u tt) in
+          let v : length (visited d 0 p) ≡ countBelow (d .rules) (visits d 0 p) = count-upto (d .rules) (visits d 0 p) in
+          let s : total (d .rules) (λ r. weigh (member p (bodyOf d r)) (priceBy (view m) t r)) ≡ countBelow (d .rules) (visits d 0 p) =
+          total-ext (d .rules) _ _ (definite-part h) in
+          added _ _ _ _ 0 (s ∙ sym (add-zero _)) v z ∙ sym c
+
+      defeasible : 2 ≤ t → 1 + total (d .rules) (λ r. weigh (member p (bodyOf d r)) (priceBy (view m) t r)) ≡ costOf d (t / 2) p before after
+      defeasible h =
+          let e : t / 2 ≡ 1 = omega arith in
+          let c : costOf d (t / 2) p before after ≡ costOf d 1 p before after = ap (λ f. costOf d f p before after) e in
+          let z : weigh (isnt (eqb 1 0)) (total (d .rules) (λ r. weigh (decides d 1 before after r) (naming d r))) ≡ total (d .rules) (λ r. weigh (decides d 1 before after r) (naming d r)) = weigh-true _ _ (isnt-intro (eqb 1 0) (λ u. u)) in
+          let v : length (visited d 1 p) ≡ countBelow (d .rules) (visits d 1 p) = count-upto (d .rules) (visits d 1 p) in
+          let s : total (d .rules) (λ r. weigh (member p (bodyOf d r)) (priceBy (view m) t r))
+          ≡ countBelow (d .rules) (visits d 1 p) + total (d .rules) (λ r. weigh (decides d 1 before after r) (naming d r)) =
+          total-ext (d .rules) _ _ (λ r l. defeasible-part (two-or-three t h tag) r l (apart r l)) ∙ total-add (d .rules) _ _ in
+          added _ _ _ _ _ s v z ∙ sym c
+
+-- the bodies of an accepted table have no literal twice
+pub bodies-apart : (b : List ℕ) (s : Sizes) → judgementOf b ≡ Accepted s → (r : ℕ) → T (distinct (bodyOf (theoryIn b s) r))
+unfolding theoryIn bodyIn
+bodies-apart b s accepted r =
+    distinct-map (λ i. entryAt b s i .literal .0) (pick (upto (s .entries)) (λ i. eqb (entryAt b s i .rule) r)) (distinct-pick (upto (s .entries)) _ (distinct-upto (s .entries))) told
+  where
+    rises : (i j : ℕ) → T (member i (pick (upto (s .entries)) (λ k. eqb (entryAt b s k .rule) r))) → T (member j (pick (upto (s .entries)) (λ k. eqb (entryAt b s k .rule) r)))
+        → i < j → entryAt b s i .literal .0 < entryAt b s j .literal .0
+    rises i j u v h =
+        let (x, e) = member-pick (upto (s .entries)) _ i u in
+        let (y, f) = member-pick (upto (s .entries)) _ j v in
+        before-right _ _ _ _ (eqb→eq _ _ e ∙ sym (eqb→eq _ _ f)) (entries-rise b s (legal b s accepted .sorted) i j h (member-upto (s .entries) j y))
+
+    told : (i j : ℕ) → T (member i (pick (upto (s .entries)) (λ k. eqb (entryAt b s k .rule) r))) → T (member j (pick (upto (s .entries)) (λ k. eqb (entryAt b s k .rule) r)))
+        → entryAt b s i .literal .0 ≡ entryAt b s j .literal .0 → i ≡ j
+    told i j u v e =
+        ⊎-elim
+        (λ l. ⊎-elim (λ o. o) (λ h. absurd (lt-irrefl _ (subst (λ z. z < entryAt b s j .literal .0) e (rises i j u v h)))) (eq-or-lt-of-le l))
+        (λ h. absurd (lt-irrefl _ (subst (λ z. entryAt b s j .literal .0 < z) e (rises j i v u h)))) (at-most i j)
+
+-- the uses are rules
+pub use-below : (n m : ℕ) (g : ℕ → ℕ) (p : ℕ → Bool) → map g (upto n) ≡ pick (upto m) p → (j : ℕ) → j < n → g j < m
+use-below n m g p e j h =
+    member-upto m (g j) (member-pick (upto m) p (g j) (subst (λ l. T (member (g j) l)) e (member-map-intro g (upto n) j (member-upto-intro n j h))) .0)
+
+-- the cost as the loop over the uses from a first one keeps it
+abbrev pub costSoFar : (ℕ → ℕ) → ℕ → ℕ → ℕ
+costSoFar f first k = 1 + total (k - first) (λ j. f (first + j))
+
+pub cost-none : (f : ℕ → ℕ) (first : ℕ) → 1 ≡ costSoFar f first first
+unfolding total
+cost-none f first = let e : first - first ≡ 0 = omega arith in sym (ap (λ n. 1 + total n (λ j. f (first + j))) e)
+
+pub cost-next : (f : ℕ → ℕ) (first k : ℕ) {sum y : ℕ} → first ≤ k → sum ≡ costSoFar f first k → y ≡ f k → sum + y ≡ costSoFar f first (k + 1)
+cost-next f first k {sum} {y} h e g =
+    let a : k + 1 - first ≡ k - first + 1 = omega arith in
+    let c : first + (k - first) ≡ k = omega arith in
+    let n : total (k + 1 - first) (λ j. f (first + j)) ≡ total (k - first) (λ j. f (first + j)) + f k =
+    ap (λ i. total i (λ j. f (first + j))) a ∙ total-next (k - first) (λ j. f (first + j)) ∙ ap (λ i. total (k - first) (λ j. f (first + j)) + f i) c in
+    omega arith
+
+-- a conclusion's cost, by the uses of its literal
+module _ (b : List ℕ) (s : Sizes) (m : List ℕ) (x : ℕ) (accepted : judgementOf b ≡ Accepted s) (ready : Ready (theoryIn b s) m) (small : x < 8 * s .atoms) where
+  literal : x / 4 < 2 * s .atoms
+  literal = split-below 4 (2 * s .atoms) x (omega arith) (omega arith)
+
+  few : (s .atoms ≤ 512) × (s .rules ≤ 1024)
+  few = (limited s (legal b s accepted .limits) .atoms, limited s (legal b s accepted .limits) .rules)
+
+  pub small-index : x / 4 < 1024
+  small-index = let h : x / 4 < 2 * s .atoms = literal in let l : s .atoms ≤ 512 = few .0 in omega arith
+
+  module _ {first end : ℕ} (f : first ≡ usesFrom (view m) (x / 4)) (e : end ≡ view m usesF (x / 4)) where
+    pub uses-within : (first ≤ end) × (end ≤ 4096)
+    unfolding theoryIn
+    uses-within = let w = ready .standing .index .within (x / 4) literal in (omega (arith, w .0), omega (arith, w .1))
+
+    listed : map (λ k. useAt m (first + k)) (upto (end - first)) ≡ pick (upto (s .rules)) (λ r. member (x / 4) (bodyOf (theoryIn b s) r))
+    unfolding theoryIn
+    listed = ap₂ (λ i j. map (λ k. useAt m (i + k)) (upto (j - i))) f e ∙ ready .standing .index .uses (x / 4) literal
+
+    pub rule-used : (k : ℕ) → first ≤ k → k < end → useAt m k < 1024
+    rule-used k h l =
+        let c : first + (k - first) ≡ k = omega arith in
+        let r : useAt m (first + (k - first)) < s .rules = use-below (end - first) (s .rules) (λ j. useAt m (first + j)) _ listed (k - first) (omega arith) in
+        let u : useAt m k < s .rules = subst (λ z. useAt m z < s .rules) c r in
+        let n : s .rules ≤ 1024 = few .1 in
+        omega arith
+
+    pub cost-all : heldOf m x ≡ false → {k sum : ℕ} → k ≤ end → end ≤ k → sum ≡ costSoFar (λ i. priceBy (view m) (x % 4) (useAt m i)) first k
+        → sum ≡ plainSystem (theoryIn b s) .cost (heldOf m) (adds (heldOf m) x) x
+    unfolding systemOf theoryIn
+    cost-all new {k} a z g =
+        g ∙ ap (λ i. costSoFar (λ j. priceBy (view m) (x % 4) (useAt m j)) first i) (le-antisymm a z)
+        ∙ ap (1 +_) (sum-listed (end - first) (s .rules) (λ j. useAt m (first + j)) _ (λ r. priceBy (view m) (x % 4) r) listed)
+        ∙ cost-by (theoryIn b s) m ready (x / 4) (x % 4) (mod-lt x (omega arith)) (ap (heldOf m) (join-split 4 x) ∙ new) (λ r _. bodies-apart b s accepted r)
+        ∙ ap (λ y. costOf (theoryIn b s) (x % 4 / 2) (x / 4) (taggedBy 4 (heldOf m)) (taggedBy 4 (adds (heldOf m) y))) (join-split 4 x)
+
+-- the tests of a rule as they are read
+module _ (w : ℕ → ℕ → ℕ) (t r : ℕ) where
+  pub read-settled : {a n f : ℕ} {o c x : Bool} → a ≡ w (has 2) r → n ≡ w sizeF r → f ≡ w (has 3) r → o ≡ (not (eqb a n) and eqb f 0)
+      → c ≡ (eqb t 3 or eqb (a + 1) n) → x ≡ (o and c) → x ≡ settledBy w t r
+  read-settled ea en ef eo ec ex =
+      ex
+      ∙ ap₂ _and_ (eo ∙ ap₂ _and_ (not-isnt _ ∙ ap isnt (ap₂ eqb ea en)) (ap (λ f. eqb f 0) ef)) (ec ∙ ap (eqb t 3 or_) (ap₂ (λ a n. eqb (a + 1) n) ea en))
+
+  pub read-definite : {k x : ℕ} → t < 2 → k ≡ w kindF r → x ≡ weigh (eqb k 0) 1 → x ≡ priceBy w t r
+  unfolding priceBy
+  read-definite h e f =
+      f ∙ ap (λ k. weigh (eqb k 0) 1) e ∙ sym (cond-true (ltb t 2) (weigh (eqb (w kindF r) 0) 1) (1 + weigh (settledBy w t r) (w namingF r)) (lt→ltb t 2 h))
+
+  pub read-defeasible : {b : Bool} {n x : ℕ} → 2 ≤ t → b ≡ settledBy w t r → n ≡ w namingF r → x ≡ weigh b n → 1 + x ≡ priceBy w t r
+  unfolding priceBy
+  read-defeasible h e f g =
+      ap (1 +_) (g ∙ ap₂ weigh e f)
+      ∙ sym (cond-false (ltb t 2) (weigh (eqb (w kindF r) 0) 1) (1 + weigh (settledBy w t r) (w namingF r)) (λ u. let l : t < 2 = ltb→lt t 2 u in omega arith))

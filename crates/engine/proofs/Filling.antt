@@ -1,0 +1,220 @@
+-- The index as its loops leave it, one after the other: it is the theory's, and the other words are 0. Assumes nothing.
+use Prim.Native.Nat.{ℕ, zero, suc, _+_, _-_, _*_, _≤_, _<_}
+use native.Mathlib.Omega.{arith}
+use mathlib.Core.Path.{_≡_, refl, sym, _∙_, ap, ap₂, subst}
+use mathlib.Core.Logic.{_⊎_, inl, inr, ⊎-elim}
+use mathlib.Core.Bool.{Bool}
+use mathlib.Core.List.{List, map}
+use lib.Dec.{T, eqb, ltb, eqb→eq, ltb→lt}
+use lib.ListN.{length}
+use Rattle.logic.specs.Tests.{_and_, member, weigh, total, countBelow, upto, pick, some}
+use Rattle.logic.specs.Theory.{isFact}
+use Rattle.logic.proofs.Tests.{test-cases, at-most, eq→eqb, cond-false, and-left, and-right, or-elim}
+use Rattle.logic.proofs.Sums.{total-zero, total-next, weigh-le, weigh-false}
+use Rattle.table.specs.declared.format.Sizes.{Sizes}
+use Rattle.table.specs.declared.judge.Judgement.the-variants.{Accepted}
+use Rattle.table.specs.Format.{entryAt, pairAt, bodyIn, theoryIn}
+use Rattle.table.specs.Refusals.{judgementOf}
+use Rattle.table.proofs.Legal.{legal, Limited, limited, ranged, head-below, stronger-below}
+use Rattle.engine.specs.Memory.{view, useAt, has, usesF, usesFrom, firstF, factF, sizeF, fires, isOut, Indexed, Counted}
+use Rattle.engine.specs.Indexing.{rulesTo, entriesTo, pairsTo, Grew, Low, Facts, Firsts, usesOf, usesBelow, usesTo, Begun, Placed, Started}
+use Rattle.engine.proofs.Growth.{kept-then}
+use Rattle.engine.proofs.Turns.{rules-most, entries-most}
+use Rattle.engine.proofs.Sorting.{uses-few}
+use Rattle.engine.proofs.Placing.{placed-list, entry-rules}
+use Rattle.engine.proofs.Fields.{Moving, indexTo, index-moving, index-heads, index-kinds, index-stricts, index-supports, index-headed, rules-facts, entries-facts, pairs-facts, index-uses, index-sizes, index-namings, index-rivals}
+
+-- outside the memory's indices there is 0
+past : (m : List ℕ) (f i : ℕ) → 1024 ≤ i → view m f i ≡ 0
+unfolding view
+past m f i h = cond-false (ltb f 28 and ltb i 1024) _ _ (λ t. let l : i < 1024 = ltb→lt i 1024 (and-right _ _ t) in omega arith)
+
+module _ (b : List ℕ) (s : Sizes) (a : judgementOf b ≡ Accepted s) {m0 m1 : List ℕ} (z : Low m0 0) (g1 : Grew m0 m1 (rulesTo (theoryIn b s) (s .rules))) where
+  small : Limited s
+  small = limited s (legal b s a .limits)
+
+  pub room-1 : 32768 ≤ length m1
+  room-1 = omega (arith, z .room, g1 .kept .size)
+
+  pub blank-facts : (q : ℕ) → view m1 factF q ≡ 0
+  blank-facts q = omega (arith, g1 .words factF q, z .low factF q, rules-facts b s q)
+
+  heads : (r : ℕ) → r < s .rules → theoryIn b s .rule r .head ≤ 1024
+  unfolding theoryIn
+  heads r h = omega (arith, head-below b s (ranged b s (legal b s a .ranges)) r h, small .atoms)
+
+  module _ {m2 : List ℕ} (g2 : Facts (theoryIn b s) (s .facts) m1 m2) where
+    pub low-2 : Low m2 8192
+    low-2 = record { room = omega (arith, room-1, g2 .only .kept .size); low = λ f i. ⊎-elim (λ t. mine f i (eqb→eq f factF t)) (λ t. others f i (λ e. t (eq→eqb f factF e))) (test-cases (eqb f factF)) }
+      where
+        mine : (f i : ℕ) → f ≡ factF → view m2 f i ≤ 8192
+        mine f i e =
+            subst (λ k. view m2 k i ≤ 8192) (sym e)
+            (⊎-elim (λ h. omega (arith, past m2 factF i h)) (λ h. omega (arith, g2 .marked i (omega arith), weigh-le (some (s .facts) (λ k. eqb (theoryIn b s .fact k) i)) 1)) (at-most 1024 i))
+
+        others : (f i : ℕ) → (f ≡ factF → ⊥) → view m2 f i ≤ 8192
+        others f i n = omega (arith, g2 .only .others f i n, g1 .words f i, z .low f i, rules-most (theoryIn b s) (s .rules) heads f i, small .rules)
+
+    module _ {m3 : List ℕ} (g3 : Grew m2 m3 (entriesTo b s (s .entries))) where
+      pub low-3 : Low m3 32768
+      low-3 =
+          record {
+            room = omega (arith, low-2 .room, g3 .kept .size);
+            low = λ f i. omega (arith, low-2 .low f i, g3 .words f i, entries-most b s (s .entries) f i, small .entries);
+          }
+
+      module _ {m4 : List ℕ} (g4 : Grew m3 m4 (pairsTo (theoryIn b s) (s .pairs))) where
+        pub room-4 : 32768 ≤ length m4
+        room-4 = omega (arith, low-3 .room, g4 .kept .size)
+
+        -- all but the facts
+        words-4 : (f i : ℕ) → (f ≡ factF → ⊥) → view m4 f i ≡ indexTo b s f i
+        words-4 f i n = omega (arith, z .low f i, g1 .words f i, g2 .only .others f i n, g3 .words f i, g4 .words f i)
+
+        facts-4 : (q : ℕ) → q < 1024 → view m4 factF q ≡ weigh (isFact (theoryIn b s) q) 1
+        unfolding theoryIn
+        facts-4 q h = omega (arith, g4 .words factF q, g3 .words factF q, g2 .marked q h, entries-facts b s q, pairs-facts b s q)
+
+        module _ {m5 : List ℕ} (g5 : Firsts (theoryIn b s) 0 m4 m5) where
+          pub room-5 : 32768 ≤ length m5
+          room-5 = omega (arith, room-4, g5 .only .kept .size)
+
+          pub uses-5 : (q : ℕ) → q < 1024 → view m5 usesF q ≡ usesOf b s q
+          uses-5 q _ = g5 .only .others usesF q (λ e. absurd (omega arith)) ∙ words-4 usesF q (λ e. absurd (omega arith)) ∙ index-uses b s q
+
+          module _ {m6 : List ℕ} (g6 : Begun b s (2 * s .atoms) m5 m6) where
+            pub room-6 : 32768 ≤ length m6
+            room-6 = omega (arith, room-5, g6 .only .kept .size)
+
+            pub uses-6 : (q : ℕ) → q < 2 * s .atoms → view m6 usesF q ≡ usesBelow b s q
+            uses-6 q h = g6 .done q h (omega (arith, small .atoms))
+
+            module _ {m7 : List ℕ} (g7 : Placed b s (s .entries) m6 m7) where
+              room-7 : 32768 ≤ length m7
+              room-7 = omega (arith, room-6, g7 .kept .size)
+
+              -- all but the facts, the firsts and the uses
+              words-7 : (f i : ℕ) → (f ≡ factF → ⊥) → (f ≡ firstF → ⊥) → (f ≡ usesF → ⊥) → view m7 f i ≡ indexTo b s f i
+              words-7 f i n o p = g7 .others f i p ∙ g6 .only .others f i p ∙ g5 .only .others f i o ∙ words-4 f i n
+
+              moving-7 : (f i : ℕ) → Moving f → view m7 f i ≡ 0
+              unfolding Moving
+              moving-7 f i (inl h) = words-7 f i (λ e. absurd (omega arith)) (λ e. absurd (omega arith)) (λ e. absurd (omega arith)) ∙ index-moving b s f i (inl h)
+              moving-7 f i (inr (inl h)) = words-7 f i (λ e. absurd (omega arith)) (λ e. absurd (omega arith)) (λ e. absurd (omega arith)) ∙ index-moving b s f i (inr (inl h))
+              moving-7 f i (inr (inr h)) = words-7 f i (λ e. absurd (omega arith)) (λ e. absurd (omega arith)) (λ e. absurd (omega arith)) ∙ index-moving b s f i (inr (inr h))
+
+              fixed : (f i : ℕ) → (f < 13) ⊎ ((16 < f) × (f < 20)) → view m7 f i ≡ indexTo b s f i
+              fixed f i (inl h) = words-7 f i (λ e. absurd (omega arith)) (λ e. absurd (omega arith)) (λ e. absurd (omega arith))
+              fixed f i (inr h) = words-7 f i (λ e. absurd (omega arith)) (λ e. absurd (omega arith)) (λ e. absurd (omega arith))
+
+              ends : (q : ℕ) → q < 2 * s .atoms → view m7 usesF q ≡ usesBelow b s q + usesOf b s q
+              ends q h = g7 .next q h
+
+              begins : (q : ℕ) → q < 2 * s .atoms → usesFrom (view m7) q ≡ usesBelow b s q
+              unfolding total
+              begins zero h = refl
+              begins (suc q) h =
+                  let e : view m7 usesF q ≡ usesBelow b s q + usesOf b s q = ends q (omega arith) in
+                  cond-false (eqb (suc q) 0) _ _ (λ t. absurd (omega (arith, eqb→eq (suc q) 0 t))) ∙ ap (view m7 usesF) (let p : suc q - 1 ≡ q = omega arith in p) ∙ e
+
+              uses-list : (q : ℕ) → q < 2 * s .atoms
+                  → map (λ k. useAt m7 (usesFrom (view m7) q + k)) (upto (view m7 usesF q - usesFrom (view m7) q)) ≡ pick (upto (s .rules)) (λ r. member q (bodyIn b s r))
+              uses-list q h =
+                  let x : usesFrom (view m7) q ≡ usesBelow b s q = begins q h in
+                  let y : view m7 usesF q - usesFrom (view m7) q ≡ usesOf b s q = omega (arith, ends q h) in
+                  ap₂ (λ o n. map (λ k. useAt m7 (o + k)) (upto n)) x y
+                  ∙ placed-list (s .entries) (λ i. eqb (entryAt b s i .literal .0) q) (λ k. useAt m7 (usesBelow b s q + k)) (λ i. entryAt b s i .rule)
+                  (λ j l t. subst (λ p. useAt m7 (usesBelow b s p + usesTo b s j p) ≡ entryAt b s j .rule) (eqb→eq _ _ t) (g7 .placed j l))
+                  ∙ entry-rules b s (legal b s a) q
+
+              uses-within : (q : ℕ) → q < 2 * s .atoms → (usesFrom (view m7) q ≤ view m7 usesF q) × (view m7 usesF q ≤ 4096)
+              uses-within q h = (
+                omega (arith, begins q h, ends q h),
+                omega (arith, ends q h, total-next q (usesOf b s), uses-few b s (q + 1), small .entries),
+              )
+
+              first-7 : (q : ℕ) → view m7 firstF q ≡ view m5 firstF q
+              first-7 q = g7 .others firstF q (λ e. absurd (omega arith)) ∙ g6 .only .others firstF q (λ e. absurd (omega arith))
+
+              firsts-7 : (i : ℕ) → i < s .pairs
+                  → (view m7 firstF (theoryIn b s .pair i .stronger) ≤ i) × (theoryIn b s .pair (view m7 firstF (theoryIn b s .pair i .stronger)) .stronger ≡ theoryIn b s .pair i .stronger)
+              unfolding theoryIn
+              firsts-7 i h =
+                  let r = g5 .first i (omega arith) h in
+                  let e : view m7 firstF (pairAt b s i .stronger) ≡ view m5 firstF (pairAt b s i .stronger) = first-7 (pairAt b s i .stronger) in
+                  (omega (arith, r .1), ap (λ k. pairAt b s k .stronger) e ∙ r .2)
+
+              facts-7 : (q : ℕ) → q < 2 * s .atoms → view m7 factF q ≡ weigh (isFact (theoryIn b s) q) 1
+              facts-7 q h =
+                  g7 .others factF q (λ e. absurd (omega arith)) ∙ g6 .only .others factF q (λ e. absurd (omega arith)) ∙ g5 .only .others factF q (λ e. absurd (omega arith))
+                  ∙ facts-4 q (omega (arith, small .atoms))
+
+              indexed : Indexed (theoryIn b s) (view m7) (useAt m7)
+              unfolding theoryIn
+              indexed =
+                  record {
+                    sizes = λ r h. fixed 8 r (inl (omega arith)) ∙ index-sizes b s r h;
+                    heads = λ r h. fixed 9 r (inl (omega arith)) ∙ index-heads b s r h;
+                    kinds = λ r h. fixed 10 r (inl (omega arith)) ∙ index-kinds b s r h;
+                    namings = λ r h. fixed 11 r (inl (omega arith)) ∙ index-namings b s (legal b s a) r;
+                    rivals = λ r h. fixed 12 r (inl (omega arith)) ∙ index-rivals b s r;
+                    firsts = firsts-7;
+                    uses = uses-list;
+                    within = uses-within;
+                    stricts = λ q h. fixed 17 q (inr (omega arith, omega arith)) ∙ index-stricts b s q;
+                    supports = λ q h. fixed 18 q (inr (omega arith, omega arith)) ∙ index-supports b s q;
+                    headed = λ q h. fixed 19 q (inr (omega arith, omega arith)) ∙ index-headed b s q;
+                    facts = facts-7;
+                  }
+
+              -- no rule fires and none is out
+              has-none : (t r : ℕ) → t < 4 → view m7 (has t) r ≡ 0
+              unfolding Moving
+              has-none t r h = moving-7 (4 + t) r (inl (omega arith))
+
+              not-fires : (t r : ℕ) → t < 4 → r < s .rules → T (fires (view m7) t r) → ⊥
+              unfolding theoryIn
+              not-fires t r h l u =
+                  let e : view m7 (has t) r ≡ view m7 sizeF r = eqb→eq _ _ u in
+                  let f : view m7 sizeF r ≡ suc (length (bodyIn b s r)) = indexed .sizes r l in
+                  let g : view m7 (has t) r ≡ 0 = has-none t r h in
+                  omega arith
+
+              not-out : (t r : ℕ) → t < 4 → T (isOut (view m7) t r) → ⊥
+              not-out t r h u = let e : 0 < view m7 (has t) r = ltb→lt _ _ u in let g : view m7 (has t) r ≡ 0 = has-none t r h in omega arith
+
+              still : (f i n : ℕ) (p : ℕ → Bool) → Moving f → ((k : ℕ) → k < n → T (p k) → ⊥) → view m7 f i ≡ countBelow n p
+              still f i n p m o = moving-7 f i m ∙ sym (total-zero n _ (λ k h. weigh-false (p k) 1 (o k h)))
+
+              counted : Counted (theoryIn b s) (view m7) (λ i. fires (view m7) 2 (theoryIn b s .pair i .stronger)) (λ i. isOut (view m7) 3 (theoryIn b s .pair i .stronger))
+              unfolding theoryIn Moving
+              counted =
+                  record {
+                    beaten = λ r h. still 14 r (s .pairs) _ (inr (inl (omega arith, omega arith))) (λ i l t. not-fires 2 _ (omega arith) (strong i l) (and-right _ _ t));
+                    lost = λ r h. still 15 r (s .pairs) _ (inr (inl (omega arith, omega arith))) (λ i l t. not-out 3 _ (omega arith) (and-right _ _ t));
+                    proved = λ q h. still 21 q (s .rules) _ (inr (inr (omega arith))) (λ r l t. not-fires 0 r (omega arith) l (and-right _ _ t));
+                    refuted = λ q h. still 22 q (s .rules) _ (inr (inr (omega arith))) (λ r l t. not-out 1 r (omega arith) (and-right _ _ t));
+                    firing = λ q h. still 23 q (s .rules) _ (inr (inr (omega arith))) (λ r l t. not-fires 2 r (omega arith) l (and-right _ _ t));
+                    out = λ q h. still 24 q (s .rules) _ (inr (inr (omega arith))) (λ r l t. not-out 3 r (omega arith) (and-right _ _ t));
+                    countered = λ q h. still 25 q (s .rules) _ (inr (inr (omega arith))) (λ r l t. ⊎-elim (not-out 3 r (omega arith)) (beats r) (or-elim _ _ (and-right _ _ t)));
+                    unopposed = λ q h. still 26 q (s .rules) _ (inr (inr (omega arith))) (λ r l t. not-fires 2 r (omega arith) l (and-left _ _ (and-right _ _ t)));
+                  }
+                where
+                  strong : (i : ℕ) → i < s .pairs → pairAt b s i .stronger < s .rules
+                  strong = stronger-below b s (ranged b s (legal b s a .ranges))
+
+                  beats : (r : ℕ) → T (ltb 0 (view m7 14 r)) → ⊥
+                  beats r u = let e : 0 < view m7 14 r = ltb→lt _ _ u in let g : view m7 14 r ≡ 0 = moving-7 14 r (inr (inl (omega arith, omega arith))) in omega arith
+
+              pub started-none : Started (theoryIn b s) 0 m0 m7
+              unfolding Moving
+              started-none =
+                  record {
+                    standing = record { room = room-7; index = indexed; counts = counted };
+                    done = λ t r h l. absurd (omega arith);
+                    left = λ t r h l. has-none t r h;
+                    marks = λ t i h. moving-7 t i (inl (omega arith));
+                    kept =
+                        kept-then (g1 .kept)
+                        (kept-then (g2 .only .kept) (kept-then (g3 .kept) (kept-then (g4 .kept) (kept-then (g5 .only .kept) (kept-then (g6 .only .kept) (g7 .kept))))));
+                  }

@@ -1,0 +1,60 @@
+-- `engine::memory::visit::visit_uses` meets its contract. The loop's invariant is `Spreading` of proofs/Adding.antt: the uses before the k-th are visited. Assumes nothing.
+use Prim.Native.Nat.{_-_}
+use Rattle.table.specs.Format.{theoryIn}
+use Rattle.engine.proofs.Adding.{Spreading, uses-start-of, uses-end-of, use-small, visit-asks, uses-next-of}
+use borrow.Author.Needs.{needs}
+use Rattle.engine.proofs.memory.visit.visit_uses.Statement.{statement}
+use Rattle.engine.proofs.memory.visit.visit_uses.Tie as tie
+
+abbrev Inv-loop : tie.InvT-loop
+Inv-loop table s mem₀ p t end k₀ mem k = Spreading (theoryIn table s) p t mem₀ mem k
+
+abbrev μ-loop : tie.MeasureT-loop
+μ-loop table s mem₀ p t end k₀ mem k = end - k
+
+end-use-requires : tie.Need-end-use-requires Inv-loop μ-loop
+end-use-requires c κs = search needs
+
+first-use-requires : tie.Need-first-use-requires Inv-loop μ-loop
+first-use-requires c κs = search needs
+
+loop-holds : tie.Need-loop-holds Inv-loop μ-loop
+loop-holds c = uses-start-of _ _ _ _ _ (c .before .before .before .before .before .before .pre .0) _ (c .first-use .ensures)
+
+load-use-requires : tie.Need-load-use-requires Inv-loop μ-loop
+load-use-requires c κs = use-small _ _ _ _ _ (c .before .before .before .before .before .before .before .before .before .pre .0) _ _ (c .before .before .loop .inv) _ (c .before .before .before .before .before .end-use .ensures) (c .before .loop-test .taken)
+
+visit-requires : tie.Need-visit-requires Inv-loop μ-loop
+visit-requires c κs = visit-asks _ _ _ _ _ (c .before .before .before .before .before .before .before .before .before .before .before .pre .0) _ _ (c .before .before .before .before .loop .inv) _ (c .before .before .before .before .before .before .before .end-use .ensures) (c .before .before .before .loop-test .taken) _ (c .before .load-use .ensures)
+
+add-k : tie.Need-add-k Inv-loop μ-loop
+add-k c = search needs
+
+loop-less : tie.Need-loop-less Inv-loop μ-loop
+loop-less c = search needs
+
+loop-again : tie.Need-loop-again Inv-loop μ-loop
+loop-again c = uses-next-of _ _ _ _ _ (c .before .before .before .before .before .before .before .before .before .before .before .before .before .before .pre .0) _ _ (c .before .before .before .before .before .before .before .loop .inv) _ (c .before .before .before .before .before .before .before .before .before .before .end-use .ensures) (c .before .before .before .before .before .before .loop-test .taken) _ (c .before .before .before .before .load-use .ensures) _ (c .before .before .visit .ensures)
+
+same-length : tie.Need-same-length Inv-loop μ-loop
+same-length c = search needs
+
+returns : tie.Need-returns Inv-loop μ-loop
+returns c = uses-end-of _ _ _ _ _ (c .before .before .before .before .before .before .before .before .pre .0) _ _ (c .before .loop .inv) _ (c .before .before .before .before .end-use .ensures) (c .loop-test .left)
+
+pub visit-uses-spec : {M : Type 1} → statement M
+visit-uses-spec =
+    tie.close
+    (tie.spec
+    Inv-loop
+    μ-loop
+    end-use-requires
+    first-use-requires
+    loop-holds
+    load-use-requires
+    visit-requires
+    add-k
+    loop-less
+    loop-again
+    same-length
+    returns)

@@ -1,0 +1,48 @@
+-- `engine::tries::try_rule` meets its contract. Assumes nothing.
+use borrow.Author.Tests.{not-true, not-false}
+use Rattle.engine.proofs.Trying.{few}
+use Rattle.engine.proofs.Users.{rule-skipped, rule-visited, head-small}
+use borrow.Author.Needs.{needs}
+use Rattle.engine.proofs.tries.try_rule.Statement.{statement}
+use Rattle.engine.proofs.tries.try_rule.Tie as tie
+
+is-strict-requires : tie.Need-is-strict-requires
+is-strict-requires c κs = (c .before .before .before .before .pre .2 .ready, c .before .before .before .before .pre .1, few _ _ (c .before .before .before .before .pre .0) .rules)
+
+visits-requires : tie.Need-visits-requires
+visits-requires c κs = search needs
+
+same-length : tie.Need-same-length
+same-length c = search needs
+
+returns : tie.Need-returns
+returns c = rule-skipped _ (c .before .before .before .before .before .before .before .args .definite) _ _ _ (c .before .visits .ensures) (c .before .before .is-strict .ensures) (not-true _ (c .if1 .taken)) _ _ _ (c .before .before .before .before .before .before .before .pre .2)
+
+head-of-requires : tie.Need-head-of-requires
+head-of-requires c κs = (c .before .before .before .before .before .before .before .before .pre .2 .ready, c .before .before .before .before .before .before .before .before .pre .1, few _ _ (c .before .before .before .before .before .before .before .before .pre .0) .rules)
+
+try-both-requires : tie.Need-try-both-requires
+try-both-requires c κs = (c .before .before .before .before .before .before .before .before .before .before .before .pre .0, head-small _ _ (c .before .before .before .before .before .before .before .before .before .before .before .pre .0) _ _ (c .before .before .before .before .before .before .before .before .before .before .before .pre .1) (c .before .before .head-of .ensures), c .before .before .before .before .before .before .before .before .before .before .before .pre .2)
+
+same-length-2 : tie.Need-same-length-2
+same-length-2 c = search needs
+
+same-length-3 : tie.Need-same-length-3
+same-length-3 c = search needs
+
+returns-2 : tie.Need-returns-2
+returns-2 c = rule-visited _ (c .before .before .before .before .before .before .before .before .before .before .before .before .before .before .before .before .args .definite) _ _ _ (c .before .before .before .before .before .before .before .before .before .before .visits .ensures) (c .before .before .before .before .before .before .before .before .before .before .before .is-strict .ensures) (not-false _ (c .before .before .before .before .before .before .before .before .before .if1 .left)) _ (c .before .before .before .before .before .before .before .head-of .ensures) (c .before .before .before .before .try-both .ensures)
+
+pub try-rule-spec : {M : Type 1} → statement M
+try-rule-spec =
+    tie.close
+    (tie.spec
+    is-strict-requires
+    visits-requires
+    same-length
+    returns
+    head-of-requires
+    try-both-requires
+    same-length-2
+    same-length-3
+    returns-2)

@@ -1,0 +1,29 @@
+-- `engine::work::try_after` meets its contract. Assumes nothing.
+use native.Mathlib.Omega.{arith}
+use Rattle.engine.proofs.Opening.{logged-added, processed}
+use borrow.Author.Needs.{needs}
+use Rattle.engine.proofs.work.try_after.Statement.{statement}
+use Rattle.engine.proofs.work.try_after.Tie as tie
+
+add-requires : tie.Need-add-requires
+add-requires c κs = search needs
+
+try-both-requires : tie.Need-try-both-requires
+try-both-requires c κs = (c .before .before .before .before .before .before .before .before .before .pre .0, omega arith, logged-added (c .before .before .before .before .before .before .before .before .before .pre .1) (c .before .before .before .before .add .ensures))
+
+try-uses-requires : tie.Need-try-uses-requires
+try-uses-requires c κs = search needs
+
+same-length : tie.Need-same-length
+same-length c = search needs
+
+same-length-2 : tie.Need-same-length-2
+same-length-2 c = search needs
+
+returns : tie.Need-returns
+returns c = processed _ (c .before .before .before .before .before .before .before .before .before .before .before .before .before .before .before .before .add .ensures) (c .before .before .before .before .before .before .before .before .before .before .before .try-both .ensures) (c .before .before .before .before .try-uses .ensures)
+
+pub try-after-spec : {M : Type 1} → statement M
+try-after-spec =
+    tie.close
+    (tie.spec add-requires try-both-requires try-uses-requires same-length same-length-2 returns)

@@ -1,0 +1,63 @@
+-- `engine::work::write_initial` meets its contract. The loop's invariant: the literals passed were tried. Assumes nothing.
+
+use Prim.Native.Nat.{_-_, _*_, _≤_}
+use mathlib.Core.Path.{_≡_, refl}
+use native.Mathlib.Omega.{arith}
+use Rattle.logic.specs.Tests.{upto}
+use Rattle.logic.specs.Reading.{withTags}
+use Rattle.table.specs.Format.{theoryIn}
+use Rattle.engine.specs.Working.{Tried}
+use Rattle.engine.proofs.Trying.{few, atoms-in}
+use Rattle.engine.proofs.Opening.{opening-start, opening-next, opening-end}
+use borrow.Author.Needs.{needs}
+use Rattle.engine.proofs.work.write_initial.Statement.{statement}
+use Rattle.engine.proofs.work.write_initial.Tie as tie
+
+abbrev Inv-loop : tie.InvT-loop
+Inv-loop table s mem₀ log₀ end n₀ q₀ mem log n q = (end ≡ 2 * s .atoms) × (q ≤ end) × Tried (theoryIn table s) (withTags 4 (upto q)) mem₀ log₀ 0 mem log n
+
+abbrev μ-loop : tie.MeasureT-loop
+μ-loop table s mem₀ log₀ end n₀ q₀ mem log n q = end - q
+
+mul-end : tie.Need-mul-end Inv-loop μ-loop
+mul-end c = record { fits = omega (arith, few _ _ (c .before .before .before .before .pre .0) .atoms) }
+
+loop-holds : tie.Need-loop-holds Inv-loop μ-loop
+loop-holds c = (refl, omega arith, opening-start _ _ _ (c .before .before .before .before .pre .2) (omega (arith, atoms-in (c .before .before .before .before .args .table .now) (c .before .before .before .before .args .s))))
+
+try-literal-requires : tie.Need-try-literal-requires Inv-loop μ-loop
+try-literal-requires c κs = search needs
+
+add-q : tie.Need-add-q Inv-loop μ-loop
+add-q c = record { fits = omega (arith, few _ _ (c .before .before .before .before .before .before .before .before .before .before .before .before .before .pre .0) .atoms) }
+
+loop-less : tie.Need-loop-less Inv-loop μ-loop
+loop-less c = search needs
+
+loop-again : tie.Need-loop-again Inv-loop μ-loop
+loop-again c = (c .before .before .before .before .before .before .before .before .loop .inv .0, omega arith, opening-next _ _ _ (c .before .before .before .before .before .before .before .before .before .before .before .before .before .pre .2) _ (c .before .before .before .before .before .before .before .before .loop .inv .2) (c .before .before .before .before .try-literal .ensures))
+
+same-length : tie.Need-same-length Inv-loop μ-loop
+same-length c = search needs
+
+same-length-2 : tie.Need-same-length-2 Inv-loop μ-loop
+same-length-2 c = search needs
+
+returns : tie.Need-returns Inv-loop μ-loop
+returns c = opening-end _ _ _ (c .before .before .before .before .before .before .pre .2) _ (omega (arith, atoms-in (c .before .before .before .before .before .before .args .table .now) (c .before .before .before .before .before .before .args .s))) (c .before .loop .inv .2)
+
+pub write-initial-spec : {M : Type 1} → statement M
+write-initial-spec =
+    tie.close
+    (tie.spec
+    Inv-loop
+    μ-loop
+    mul-end
+    loop-holds
+    try-literal-requires
+    add-q
+    loop-less
+    loop-again
+    same-length
+    same-length-2
+    returns)

@@ -1,0 +1,67 @@
+-- Document 01, The rule of working, and its price: what a run answers, and what it leaves in the log and the scratch.
+use Prim.Native.Nat.{ℕ, _+_, _*_}
+use mathlib.Core.Path.{_≡_}
+use mathlib.Core.Bool.{cond}
+use mathlib.Core.List.{List, _++_}
+use lib.Dec.{ltb}
+use lib.ListN.{length, drop, replicate}
+use Rattle.logic.specs.Theory.{Theory, size}
+use Rattle.logic.specs.Worklist.{Outcome, logOf, lines, worked, run}
+use Rattle.logic.specs.Plain.{plainSystem, bound}
+use Rattle.logic.specs.Demands.{Demands}
+use Rattle.table.specs.declared.format.Sizes.{Sizes}
+use Rattle.table.specs.declared.judge.Refusal.{Refusal}
+use Rattle.table.specs.declared.judge.Refusal.the-variants.{ShortScratch, ShortLog}
+use Rattle.table.specs.declared.judge.Judgement.{Judgement}
+use Rattle.table.specs.declared.judge.Judgement.the-variants as judgement
+use Rattle.table.specs.Format.{theoryOf}
+use Rattle.table.specs.Refusals as refusals
+use Rattle.engine.specs.declared.answer.Counts.{Counts}
+use Rattle.engine.specs.declared.answer.Answer.{Answer}
+use Rattle.engine.specs.declared.answer.Answer.the-variants.{Refused, Stopped, Finished}
+
+-- The paper's number and values of each answer: a refusal's number, 0 for a run; and lines, worked, spent.
+unfoldable pub numberOf : Answer → ℕ
+numberOf (Refused n) = refusals.numberOf n
+numberOf (Stopped c) = 0
+numberOf (Finished c) = 0
+
+unfoldable pub countsOf : Answer → Counts
+countsOf (Refused n) = record { lines = 0; worked = 0; spent = 0 }
+countsOf (Stopped c) = c
+countsOf (Finished c) = c
+
+-- "lent scratch below 32,768 16-bit words", "lent log below 4A 16-bit words", after 1 to 7
+unfoldable pub withBuffers : Judgement → ℕ → ℕ → Judgement
+withBuffers (judgement.Accepted s) scratch log =
+    cond (ltb scratch 32768) (judgement.Refused ShortScratch) (cond (ltb log (4 * s .atoms)) (judgement.Refused ShortLog) (judgement.Accepted s))
+withBuffers (judgement.Refused n) scratch log = judgement.Refused n
+
+-- the run that a table is given under a budget
+abbrev pub runOf : List ℕ → ℕ → Outcome
+runOf b budget = run (plainSystem (theoryOf b)) budget
+
+abbrev pub countsIn : Outcome → Counts
+countsIn o = record { lines = lines o; worked = worked o; spent = o .spent }
+
+unfoldable pub answerTo : Judgement → Outcome → Answer
+answerTo (judgement.Accepted s) o = cond (o .finished) (Finished (countsIn o)) (Stopped (countsIn o))
+answerTo (judgement.Refused n) o = Refused n
+
+-- "Log words past the lines are untouched"; "A refusal .. writes nothing."
+unfoldable pub logAfter : Judgement → Outcome → List ℕ → List ℕ
+logAfter (judgement.Accepted s) o log = logOf o ++ drop (lines o) log
+logAfter (judgement.Refused n) o log = log
+
+-- "on every accepted call the first 32,768 scratch words are 0 and the rest untouched"
+unfoldable pub scratchAfter : Judgement → List ℕ → List ℕ
+scratchAfter (judgement.Accepted s) scratch = replicate 32768 0 ++ drop 32768 scratch
+scratchAfter (judgement.Refused n) scratch = scratch
+
+-- What `run` hands over: the answer, both buffers whole, and, with the run, demands 2 and 3.
+pub record Ran (b : List ℕ) (budget : ℕ) (log log′ scratch scratch′ : List ℕ) (a : Answer) : Type 0 where
+  pub answer : a ≡ answerTo (withBuffers (refusals.judgementOf b) (length scratch) (length log)) (runOf b budget)
+  pub written : log′ ≡ logAfter (withBuffers (refusals.judgementOf b) (length scratch) (length log)) (runOf b budget) log
+  pub cleared : scratch′ ≡ scratchAfter (withBuffers (refusals.judgementOf b) (length scratch) (length log)) scratch
+  pub demands : (s : Sizes) → refusals.judgementOf b ≡ judgement.Accepted s
+      → Demands (plainSystem (theoryOf b)) (bound (theoryOf b)) (5 * size (theoryOf b)) budget

@@ -1,0 +1,49 @@
+-- What the working memory promises to the run above it.
+use Prim.Native.Nat.{ℕ, _+_, _<_}
+use mathlib.Core.Path.{_≡_}
+use mathlib.Core.Bool.{Bool, false}
+use mathlib.Core.List.{List}
+use lib.Dec.{eqb}
+use lib.ListN.{length, drop}
+use Rattle.logic.specs.Tests.{_or_}
+use Rattle.logic.specs.Theory.{Theory}
+use Rattle.engine.specs.Memory.{Standing, Ready, view, has, mark, sizeF, heldOf, writtenOf}
+
+-- a test with one number more
+abbrev pub adds : (ℕ → Bool) → ℕ → ℕ → Bool
+adds h x y = h y or eqb y x
+
+-- the words past the memory, and their number, stay
+pub record Kept (m n : List ℕ) : Type 0 where
+  pub size : length n ≡ length m
+  pub rest : drop 32768 n ≡ drop 32768 m
+
+-- one antecedent more of rule r has tag t
+pub record Visited (d : Theory) (t r : ℕ) (m n : List ℕ) : Type 0 where
+  pub standing : Standing d n
+  pub more : view n (has t) r ≡ view m (has t) r + 1
+  pub others : (u i : ℕ) → u < 4 → (u ≡ t → i ≡ r → ⊥) → view n (has u) i ≡ view m (has u) i
+  pub marks : (u i : ℕ) → u < 4 → view n (mark u) i ≡ view m (mark u) i
+  pub sizes : (i : ℕ) → view n sizeF i ≡ view m sizeF i
+  pub kept : Kept m n
+
+-- the memory is ready for a theory, and nothing is processed or written
+pub record Prepared (d : Theory) (m n : List ℕ) : Type 0 where
+  pub ready : Ready d n
+  pub none : (x : ℕ) → heldOf n x ≡ false
+  pub nothing : (x : ℕ) → writtenOf n x ≡ false
+  pub kept : Kept m n
+
+-- conclusion x was written
+pub record Wrote (d : Theory) (x : ℕ) (m n : List ℕ) : Type 0 where
+  pub ready : Ready d n
+  pub same : (y : ℕ) → heldOf n y ≡ heldOf m y
+  pub written : (y : ℕ) → writtenOf n y ≡ adds (writtenOf m) x y
+  pub kept : Kept m n
+
+-- conclusion x was processed
+pub record Added (d : Theory) (x : ℕ) (m n : List ℕ) : Type 0 where
+  pub ready : Ready d n
+  pub held : (y : ℕ) → heldOf n y ≡ adds (heldOf m) x y
+  pub written : (y : ℕ) → writtenOf n y ≡ writtenOf m y
+  pub kept : Kept m n

@@ -1,0 +1,7 @@
+pub mod Answers
+pub mod Memory
+pub mod Api
+pub mod Deciding
+pub mod Working
+pub mod Indexing
+pub mod Visits

@@ -1,0 +1,68 @@
+// The memory of a table at its start, and the memory cleared.
+ghost use Prim.Native.Nat.{_≤_};
+ghost use mathlib.Core.Path.{_≡_};
+ghost use mathlib.Core.List.{_++_};
+ghost use lib.ListN.{length, drop, replicate};
+ghost use Rattle.table.specs.declared.judge.Judgement.the-variants.{Accepted};
+ghost use Rattle.table.specs.Format.{theoryIn};
+ghost use Rattle.table.specs.Refusals.{judgementOf};
+ghost use Rattle.engine.specs.Api.{Prepared};
+ghost use Rattle.engine.specs.Indexing.{Low, Started};
+use crate::memory::counting::add_entries;
+use crate::memory::counting::add_pairs;
+use crate::memory::counting::add_rules;
+use crate::memory::listing::mark_facts;
+use crate::memory::listing::mark_firsts;
+use crate::memory::sorting::begin_uses;
+use crate::memory::sorting::place_uses;
+use crate::memory::visit::visit;
+use table::format::Sizes;
+
+// The first 32,768 words set to 0.
+pub fn clear(mem: &mut [u16])
+    requires { ⌜ 32768 ≤ length (now mem) ⌝ }
+    ensures { λ _. ⌜ now (mem .exit) ≡ replicate 32768 0 ++ drop 32768 (now (mem .entry)) ⌝ }
+{
+    let mut i: usize = 0;
+    while i < 32768 {
+        mem[i] = 0;
+        i += 1;
+    }
+}
+
+// What is written once, in a memory of zeros else.
+fn fill(table: &[u8], s: Sizes, mem: &mut [u16])
+    requires { ⌜ (judgementOf (now table) ≡ Accepted s) × Low (now mem) 0 ⌝ }
+    ensures { λ _. ⌜ Started (theoryIn (now (table .entry)) s) 0 (now (mem .entry)) (now (mem .exit)) ⌝ }
+{
+    add_rules(table, s, mem);
+    mark_facts(table, s, mem);
+    add_entries(table, s, mem);
+    add_pairs(table, s, mem);
+    mark_firsts(table, s, mem);
+    begin_uses(table, s, mem);
+    place_uses(table, s, mem);
+}
+
+// Every rule has its one antecedent more, with +Δ and +∂.
+fn start(table: &[u8], s: Sizes, mem: &mut [u16])
+    requires { ⌜ (judgementOf (now table) ≡ Accepted s) × Started (theoryIn (now table) s) 0 (now mem) (now mem) ⌝ }
+    ensures { λ _. ⌜ Started (theoryIn (now (table .entry)) s) (s .rules) (now (mem .entry)) (now (mem .exit)) ⌝ }
+{
+    let mut r: u16 = 0;
+    while r < s.rules {
+        visit(table, s, mem, r, 0);
+        visit(table, s, mem, r, 2);
+        r += 1;
+    }
+}
+
+// Nothing processed, nothing written; whatever the words held.
+pub fn prepare(table: &[u8], s: Sizes, mem: &mut [u16])
+    requires { ⌜ (judgementOf (now table) ≡ Accepted s) × (32768 ≤ length (now mem)) ⌝ }
+    ensures { λ _. ⌜ Prepared (theoryIn (now (table .entry)) s) (now (mem .entry)) (now (mem .exit)) ⌝ }
+{
+    clear(mem);
+    fill(table, s, mem);
+    start(table, s, mem);
+}

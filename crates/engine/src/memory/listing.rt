@@ -1,0 +1,39 @@
+// Which literals are facts, and where the pairs of each stronger rule begin.
+ghost use Prim.Native.Nat.{ℕ, _≤_, _<_};
+ghost use mathlib.Core.Path.{_≡_};
+ghost use lib.ListN.{length};
+ghost use Rattle.table.specs.declared.judge.Judgement.the-variants.{Accepted};
+ghost use Rattle.table.specs.Format.{theoryIn};
+ghost use Rattle.table.specs.Refusals.{judgementOf};
+ghost use Rattle.engine.specs.Memory.{view, factF};
+ghost use Rattle.engine.specs.Indexing.{Facts, Firsts};
+use crate::memory::words::store;
+use table::format::Sizes;
+use table::format::read_fact;
+use table::format::read_pair;
+
+// 1 at each fact.
+pub fn mark_facts(table: &[u8], s: Sizes, mem: &mut [u16])
+    requires { ⌜ (judgementOf (now table) ≡ Accepted s) × (32768 ≤ length (now mem)) × ((q : ℕ) → view (now mem) factF q ≡ 0) ⌝ }
+    ensures { λ _. ⌜ Facts (theoryIn (now (table .entry)) s) (s .facts) (now (mem .entry)) (now (mem .exit)) ⌝ }
+{
+    let mut i: u16 = 0;
+    while i < s.facts {
+        let literal = read_fact(table, s, i as usize);
+        store(mem, 20, literal.0 as usize, 1);
+        i += 1;
+    }
+}
+
+// At each stronger rule its first pair: the last that is stored, as the pairs are passed downwards.
+pub fn mark_firsts(table: &[u8], s: Sizes, mem: &mut [u16])
+    requires { ⌜ (judgementOf (now table) ≡ Accepted s) × (32768 ≤ length (now mem)) ⌝ }
+    ensures { λ _. ⌜ Firsts (theoryIn (now (table .entry)) s) 0 (now (mem .entry)) (now (mem .exit)) ⌝ }
+{
+    let mut i: u16 = s.pairs;
+    while 0 < i {
+        i -= 1;
+        let pair = read_pair(table, s, i as usize);
+        store(mem, 13, pair.stronger as usize, i);
+    }
+}

@@ -1,0 +1,25 @@
+// Which conclusions are written.
+ghost use Prim.Native.Nat.{_*_, _≤_, _<_};
+ghost use mathlib.Core.Path.{_≡_};
+ghost use mathlib.Core.Bool.{false};
+ghost use lib.ListN.{length};
+ghost use Rattle.table.specs.Format.{theoryIn};
+ghost use Rattle.engine.specs.Memory.{Ready, heldOf, writtenOf};
+ghost use Rattle.engine.specs.Api.{Wrote};
+use crate::memory::words::load;
+use crate::memory::words::store;
+use table::format::Sizes;
+
+pub fn is_written(mem: &[u16], x: u16) -> bool
+    requires { ⌜ (x < 4096) × (32768 ≤ length (now mem)) ⌝ }
+    ensures { λ r. ⌜ r ≡ writtenOf (now (mem .entry)) x ⌝ }
+{
+    load(mem, x as usize % 4, x as usize / 4) != 0
+}
+
+pub fn write(table: &[u8], s: Sizes, mem: &mut [u16], x: u16)
+    requires { ⌜ Ready (theoryIn (now table) s) (now mem) × (s .atoms ≤ 512) × (x < 8 * s .atoms) × (writtenOf (now mem) x ≡ false) ⌝ }
+    ensures { λ _. ⌜ Wrote (theoryIn (now (table .entry)) s) x (now (mem .entry)) (now (mem .exit)) ⌝ }
+{
+    store(mem, x as usize % 4, x as usize / 4, 1);
+}

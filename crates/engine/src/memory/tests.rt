@@ -1,0 +1,183 @@
+// What follows from what is processed, and what a conclusion costs.
+ghost use Prim.Native.Nat.{_*_, _≤_, _<_};
+ghost use mathlib.Core.Path.{_≡_};
+ghost use mathlib.Core.Bool.{false};
+ghost use lib.ListN.{length};
+ghost use Rattle.logic.specs.Tests.{_and_, _or_, weigh};
+ghost use Rattle.logic.specs.Theory.{complement};
+ghost use Rattle.logic.specs.Inference as inference;
+ghost use Rattle.logic.specs.Reading.{taggedBy};
+ghost use Rattle.logic.specs.Plain.{plainSystem};
+ghost use Rattle.table.specs.declared.judge.Judgement.the-variants.{Accepted};
+ghost use Rattle.table.specs.Format.{theoryIn};
+ghost use Rattle.table.specs.Refusals.{judgementOf};
+ghost use Rattle.engine.specs.Memory.{Ready, view, heldOf};
+ghost use Rattle.engine.specs.Api.{adds};
+ghost use Rattle.engine.specs.Deciding.{processed, definitelyBy, notDefinitelyBy, defeasiblyBy, notDefeasiblyBy, settledBy, priceBy};
+use crate::memory::uses::end_use;
+use crate::memory::uses::first_use;
+use crate::memory::words::load;
+use crate::memory::words::load_use;
+use table::format::Literal;
+use table::format::Sizes;
+
+// Fields (specs/Memory.antt). Of a rule: how many antecedents have +∂, −∂; and what is written once.
+const WITH_PROVED: usize = 6;
+
+const WITH_REFUTED: usize = 7;
+
+const SIZE: usize = 8;
+
+const KIND: usize = 10;
+
+const NAMING: usize = 11;
+
+// Of a literal: written once, and counts.
+const STRICT: usize = 17;
+
+const SUPPORT: usize = 18;
+
+const HEADED: usize = 19;
+
+const FACT: usize = 20;
+
+const PROVED: usize = 21;
+
+const REFUTED: usize = 22;
+
+const FIRING: usize = 23;
+
+const OUT: usize = 24;
+
+const COUNTERED: usize = 25;
+
+const UNOPPOSED: usize = 26;
+
+fn both(a: bool, b: bool) -> bool
+    ensures { λ r. ⌜ r ≡ (a and b) ⌝ }
+{
+    if a { b } else { false }
+}
+
+fn either(a: bool, b: bool) -> bool
+    ensures { λ r. ⌜ r ≡ (a or b) ⌝ }
+{
+    if a { true } else { b }
+}
+
+// Whether tag t of the literal at an index is processed.
+fn is_processed(mem: &[u16], i: usize, t: usize) -> bool
+    requires { ⌜ (i < 1024) × (t < 4) × (32768 ≤ length (now mem)) ⌝ }
+    ensures { λ r. ⌜ r ≡ processed (view (now (mem .entry))) i t ⌝ }
+{
+    load(mem, t, i) == 2
+}
+
+// +Δ
+fn definitely(mem: &[u16], i: usize) -> bool
+    requires { ⌜ (i < 1024) × (32768 ≤ length (now mem)) ⌝ }
+    ensures { λ r. ⌜ r ≡ definitelyBy (view (now (mem .entry))) i ⌝ }
+{
+    either(0 < load(mem, FACT, i), 0 < load(mem, PROVED, i))
+}
+
+// −Δ
+fn not_definitely(mem: &[u16], i: usize) -> bool
+    requires { ⌜ (i < 1024) × (32768 ≤ length (now mem)) ⌝ }
+    ensures { λ r. ⌜ r ≡ notDefinitelyBy (view (now (mem .entry))) i ⌝ }
+{
+    let out = load(mem, REFUTED, i) == load(mem, STRICT, i);
+    both(load(mem, FACT, i) == 0, out)
+}
+
+// The complement of literal q, as an index.
+fn other(q: u16) -> usize
+    ensures { λ r. ⌜ r ≡ complement q ⌝ }
+{
+    let n = Literal(q).complement();
+    n.0 as usize
+}
+
+// +∂
+fn defeasibly(mem: &[u16], q: u16) -> bool
+    requires { ⌜ (q < 1024) × (32768 ≤ length (now mem)) ⌝ }
+    ensures { λ r. ⌜ r ≡ defeasiblyBy (view (now (mem .entry))) q ⌝ }
+{
+    let i = q as usize;
+    let n = other(q);
+    let fires = both(0 < load(mem, FIRING, i), is_processed(mem, n, 1));
+    let countered = load(mem, COUNTERED, n) == load(mem, HEADED, n);
+    either(is_processed(mem, i, 0), both(fires, countered))
+}
+
+// −∂
+fn not_defeasibly(mem: &[u16], q: u16) -> bool
+    requires { ⌜ (q < 1024) × (32768 ≤ length (now mem)) ⌝ }
+    ensures { λ r. ⌜ r ≡ notDefeasiblyBy (view (now (mem .entry))) q ⌝ }
+{
+    let i = q as usize;
+    let n = other(q);
+    let unsupported = load(mem, OUT, i) == load(mem, SUPPORT, i);
+    let refuted = either(unsupported, is_processed(mem, n, 0));
+    let beaten = either(refuted, 0 < load(mem, UNOPPOSED, n));
+    both(is_processed(mem, i, 1), beaten)
+}
+
+// Whether tag t of literal q follows.
+pub fn follows(table: &[u8], s: Sizes, mem: &[u16], q: u16, t: u16) -> bool
+    requires { ⌜ (judgementOf (now table) ≡ Accepted s) × Ready (theoryIn (now table) s) (now mem) × (q < 2 * s .atoms) × (t < 4) ⌝ }
+    ensures { λ r. ⌜ r ≡ inference.follows (theoryIn (now (table .entry)) s) (taggedBy 4 (heldOf (now (mem .entry)))) q t ⌝ }
+{
+    match t {
+        0 => definitely(mem, q as usize),
+        1 => not_definitely(mem, q as usize),
+        2 => defeasibly(mem, q),
+        _ => not_defeasibly(mem, q),
+    }
+}
+
+// Whether one antecedent more of rule r with tag t, 2 or 3, decides the rule.
+fn settles(mem: &[u16], r: usize, t: u16) -> bool
+    requires { ⌜ (r < 1024) × (32768 ≤ length (now mem)) ⌝ }
+    ensures { λ x. ⌜ x ≡ settledBy (view (now (mem .entry))) t r ⌝ }
+{
+    let proved = load(mem, WITH_PROVED, r) as u32;
+    let size = load(mem, SIZE, r) as u32;
+    let open = both(proved != size, load(mem, WITH_REFUTED, r) == 0);
+    both(open, either(t == 3, proved + 1 == size))
+}
+
+fn weigh(test: bool, n: u16) -> u32
+    ensures { λ r. ⌜ (r ≡ weigh test n) × (r ≤ 65535) ⌝ }
+{
+    if test { n as u32 } else { 0 }
+}
+
+// What rule r, which uses a literal, adds to the cost of its tag t.
+fn price(mem: &[u16], r: usize, t: u16) -> u32
+    requires { ⌜ (r < 1024) × (32768 ≤ length (now mem)) ⌝ }
+    ensures { λ x. ⌜ (x ≡ priceBy (view (now (mem .entry))) t r) × (x ≤ 65536) ⌝ }
+{
+    if t < 2 {
+        weigh(load(mem, KIND, r) == 0, 1)
+    } else {
+        1 + weigh(settles(mem, r, t), load(mem, NAMING, r))
+    }
+}
+
+// The cost of processing a conclusion that is not processed.
+pub fn cost(table: &[u8], s: Sizes, mem: &[u16], x: u16) -> u32
+    requires { ⌜ (judgementOf (now table) ≡ Accepted s) × Ready (theoryIn (now table) s) (now mem) × (x < 8 * s .atoms) × (heldOf (now mem) x ≡ false) ⌝ }
+    ensures { λ r. ⌜ r ≡ plainSystem (theoryIn (now (table .entry)) s) .cost (heldOf (now (mem .entry))) (adds (heldOf (now (mem .entry))) x) x ⌝ }
+{
+    let t = x % 4;
+    let first = first_use(mem, x / 4);
+    let end = end_use(mem, x / 4);
+    let mut sum: u32 = 1;
+    let mut k = first;
+    while k < end {
+        sum += price(mem, load_use(mem, k) as usize, t);
+        k += 1;
+    }
+    sum
+}

@@ -1,0 +1,214 @@
+// A conclusion is processed: every count that changes grows by one at a time, and then the mark is set.
+ghost use Prim.Native.Nat.{_+_, _*_, _≤_, _<_};
+ghost use mathlib.Core.Path.{_≡_};
+ghost use mathlib.Core.Bool.{true, false};
+ghost use lib.Dec.{T};
+ghost use lib.ListN.{length};
+ghost use Rattle.logic.specs.Tests.{_and_, weigh};
+ghost use Rattle.logic.specs.Theory.{canSupport, kindOf};
+ghost use Rattle.table.specs.declared.judge.Judgement.the-variants.{Accepted};
+ghost use Rattle.table.specs.Format.{theoryIn};
+ghost use Rattle.table.specs.Refusals.{judgementOf};
+ghost use Rattle.engine.specs.Memory.{Standing, Ready, view, has, sizeF, headF, heldOf, writtenOf};
+ghost use Rattle.engine.specs.Api.{Visited, Added};
+ghost use Rattle.engine.specs.Visits.{Sound, Raised, aim, reached, settled, spoken, spokenTo, isFree, turned, Open, Steady, Heard, Spread};
+use crate::memory::uses::end_use;
+use crate::memory::uses::first_use;
+use crate::memory::words::bump;
+use crate::memory::words::load;
+use crate::memory::words::load_use;
+use crate::memory::words::store;
+use table::format::Literal;
+use table::format::Sizes;
+use table::format::read_pair;
+
+// Fields of the memory (specs/Memory.antt). Those of a rule's antecedents with a tag begin at HAS; with tag +∂ and −∂ they are these.
+const HAS: usize = 4;
+
+const HAS_PLUS: usize = 6;
+
+const HAS_MINUS: usize = 7;
+
+const SIZE: usize = 8;
+
+const HEAD: usize = 9;
+
+const KIND: usize = 10;
+
+const RIVALS: usize = 12;
+
+const FIRST: usize = 13;
+
+const BEATEN: usize = 14;
+
+const LOST: usize = 15;
+
+// A word as an index.
+fn wide(n: u16) -> usize
+    ensures { λ r. ⌜ r ≡ n ⌝ }
+{
+    n as usize
+}
+
+fn both(a: bool, b: bool) -> bool
+    ensures { λ r. ⌜ r ≡ a and b ⌝ }
+{
+    if a { b } else { false }
+}
+
+// One more, if the test says so.
+fn bump_if(mem: &mut [u16], field: usize, i: usize, test: bool)
+    requires { ⌜ (field < 28) × (i < 1024) × (32768 ≤ length (now mem)) × (view (now mem) field i < 65535) ⌝ }
+    ensures { λ _. ⌜ Raised field i (weigh test 1) (now (mem .entry)) (now (mem .exit)) ⌝ }
+{
+    if test {
+        bump(mem, field, i);
+    }
+}
+
+// The number of antecedents with tag t that decides a rule.
+fn aim(t: usize, size: u16) -> u16
+    ensures { λ r. ⌜ r ≡ aim t size ⌝ }
+{
+    if t % 2 == 0 { size } else { 1 }
+}
+
+// Whether every rival of rule r is out (t = 2), or none fires (t = 3).
+fn is_free(mem: &[u16], r: usize, t: usize) -> bool
+    requires { ⌜ (r < 1024) × (32768 ≤ length (now mem)) ⌝ }
+    ensures { λ x. ⌜ x ≡ isFree (view (now (mem .entry))) t r ⌝ }
+{
+    if t == 2 {
+        load(mem, LOST, r) == load(mem, RIVALS, r)
+    } else {
+        load(mem, BEATEN, r) == 0
+    }
+}
+
+// Whether the rival that rule r was just told of has made it countered (t = 2), or unopposed (t = 3).
+fn has_turned(mem: &[u16], r: usize, t: usize) -> bool
+    requires { ⌜ (r < 1024) × (32768 ≤ length (now mem)) ⌝ }
+    ensures { λ x. ⌜ x ≡ turned (view (now (mem .entry))) t r ⌝ }
+{
+    if t == 2 {
+        both(load(mem, BEATEN, r) == 1, load(mem, HAS_MINUS, r) == 0)
+    } else {
+        both(
+            load(mem, LOST, r) == load(mem, RIVALS, r),
+            load(mem, HAS_PLUS, r) == load(mem, SIZE, r),
+        )
+    }
+}
+
+// Rule x is told that a rule over it fires (t = 2), or is out (t = 3). That rule is a rival if q, the complement of its head, is
+// the head of x.
+fn tell(mem: &mut [u16], q: usize, x: usize, t: usize)
+    requires { ⌜ (x < 1024) × (2 ≤ t) × (t < 4) × (32768 ≤ length (now mem)) ⌝ }
+    requires { ⌜ (view (now mem) (12 + t) x < 65535) × (view (now mem) headF x < 1024) × (view (now mem) (23 + t) (view (now mem) headF x) < 65535) ⌝ }
+    ensures { λ _. ⌜ Heard q x t (now (mem .entry)) (now (mem .exit)) ⌝ }
+{
+    let head = wide(load(mem, HEAD, x));
+    let rival = head == q;
+    // beaten or lost
+    bump_if(mem, 12 + t, x, rival);
+    let turns = has_turned(mem, x, t);
+    // countered or unopposed
+    bump_if(mem, 23 + t, head, both(rival, turns));
+}
+
+// Every rule that rule r is over is told.
+fn walk(table: &[u8], s: Sizes, mem: &mut [u16], r: usize, t: usize)
+    requires { ⌜ Sound (theoryIn (now table) s) × (r < s .rules) × (2 ≤ t) × (t < 4) × T (canSupport (kindOf (theoryIn (now table) s) r)) ⌝ }
+    requires { ⌜ T (reached (view (now mem)) t r) × Open (theoryIn (now table) s) (now mem) (settled (view (now mem))) (spokenTo (theoryIn (now table) s) (view (now mem)) t r 0) ⌝ }
+    requires { ⌜ (r < 1024) × (32768 ≤ length (now mem)) ⌝ }
+    ensures { λ _. ⌜ Steady (now (mem .entry)) (now (mem .exit)) × Open (theoryIn (now (table .entry)) s) (now (mem .exit)) (settled (view (now (mem .exit)))) (spoken (theoryIn (now (table .entry)) s) (view (now (mem .exit)))) ⌝ }
+{
+    let n = wide(s.pairs);
+    let head = Literal(load(mem, HEAD, r));
+    let opposite = head.complement();
+    let q = wide(opposite.0);
+    let mut i = wide(load(mem, FIRST, r));
+    while i < n {
+        let p = read_pair(table, s, i);
+        if wide(p.stronger) != r {
+            return;
+        }
+        tell(mem, q, wide(p.weaker), t);
+        i += 1;
+    }
+}
+
+// A visit with tag +Δ or −Δ.
+fn visit_definite(table: &[u8], s: Sizes, mem: &mut [u16], r: usize, t: usize)
+    requires { ⌜ Sound (theoryIn (now table) s) × Standing (theoryIn (now table) s) (now mem) × (r < s .rules) × (t < 2) × (view (now mem) (has t) r < view (now mem) sizeF r) ⌝ }
+    requires { ⌜ (r < 1024) × (32768 ≤ length (now mem)) ⌝ }
+    ensures { λ _. ⌜ Visited (theoryIn (now (table .entry)) s) t r (now (mem .entry)) (now (mem .exit)) ⌝ }
+{
+    let size = load(mem, SIZE, r);
+    let head = wide(load(mem, HEAD, r));
+    let strict = load(mem, KIND, r) == 0;
+    bump(mem, HAS + t, r);
+    let decided = load(mem, HAS + t, r) == aim(t, size);
+    // proved or refuted
+    bump_if(mem, 21 + t, head, both(decided, strict));
+}
+
+// A visit with tag +∂ or −∂.
+fn visit_defeasible(table: &[u8], s: Sizes, mem: &mut [u16], r: usize, t: usize)
+    requires { ⌜ Sound (theoryIn (now table) s) × Standing (theoryIn (now table) s) (now mem) × (r < s .rules) × (2 ≤ t) × (t < 4) × (view (now mem) (has t) r < view (now mem) sizeF r) ⌝ }
+    requires { ⌜ (r < 1024) × (32768 ≤ length (now mem)) ⌝ }
+    ensures { λ _. ⌜ Visited (theoryIn (now (table .entry)) s) t r (now (mem .entry)) (now (mem .exit)) ⌝ }
+{
+    let size = load(mem, SIZE, r);
+    let head = wide(load(mem, HEAD, r));
+    let kind = load(mem, KIND, r);
+    bump(mem, HAS + t, r);
+    let decided = load(mem, HAS + t, r) == aim(t, size);
+    let free = is_free(mem, r, t);
+    // unopposed or countered
+    bump_if(mem, 28 - t, head, both(decided, free));
+    let speaks = both(decided, kind < 2);
+    // firing or out
+    bump_if(mem, 21 + t, head, speaks);
+    if speaks {
+        walk(table, s, mem, r, t);
+    }
+}
+
+// One antecedent more of rule r has tag t.
+pub fn visit(table: &[u8], s: Sizes, mem: &mut [u16], r: u16, t: u16)
+    requires { ⌜ (judgementOf (now table) ≡ Accepted s) × Standing (theoryIn (now table) s) (now mem) × (r < s .rules) × (t < 4) × (view (now mem) (has t) r < view (now mem) sizeF r) ⌝ }
+    ensures { λ _. ⌜ Visited (theoryIn (now (table .entry)) s) t r (now (mem .entry)) (now (mem .exit)) ⌝ }
+{
+    if t < 2 {
+        visit_definite(table, s, mem, wide(r), wide(t));
+    } else {
+        visit_defeasible(table, s, mem, wide(r), wide(t));
+    }
+}
+
+// Every rule with literal p in its body is visited with tag t.
+fn visit_uses(table: &[u8], s: Sizes, mem: &mut [u16], p: u16, t: u16)
+    requires { ⌜ (judgementOf (now table) ≡ Accepted s) × Ready (theoryIn (now table) s) (now mem) × (p < 2 * s .atoms) × (t < 4) × (heldOf (now mem) (4 * p + t) ≡ false) ⌝ }
+    requires { ⌜ (p < 1024) × (32768 ≤ length (now mem)) ⌝ }
+    ensures { λ _. ⌜ Spread (theoryIn (now (table .entry)) s) p t (now (mem .entry)) (now (mem .exit)) ⌝ }
+{
+    let end = end_use(mem, p);
+    let mut k = first_use(mem, p);
+    while k < end {
+        let r = load_use(mem, k);
+        visit(table, s, mem, r, t);
+        k += 1;
+    }
+}
+
+// Conclusion x is processed.
+pub fn add(table: &[u8], s: Sizes, mem: &mut [u16], x: u16)
+    requires { ⌜ (judgementOf (now table) ≡ Accepted s) × Ready (theoryIn (now table) s) (now mem) × (x < 8 * s .atoms) × (writtenOf (now mem) x ≡ true) × (heldOf (now mem) x ≡ false) ⌝ }
+    ensures { λ _. ⌜ Added (theoryIn (now (table .entry)) s) x (now (mem .entry)) (now (mem .exit)) ⌝ }
+{
+    let p = x / 4;
+    let t = x % 4;
+    visit_uses(table, s, mem, p, t);
+    store(mem, wide(t), wide(p), 2);
+}
