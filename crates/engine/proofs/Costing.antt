@@ -27,7 +27,7 @@ use Rattle.table.proofs.Legal.{legal, limited}
 use Rattle.table.proofs.Sorted.{entries-rise, before-right}
 use Rattle.engine.specs.Memory.{view, useAt, has, sizeF, kindF, namingF, usesF, usesFrom, heldOf, Ready, extra, antecedents}
 use Rattle.engine.specs.Api.{adds}
-use Rattle.engine.specs.Deciding.{settledBy, priceBy}
+use Rattle.engine.specs.Deciding.{decidedBy, chargeBy}
 use Rattle.engine.proofs.Counting.{pick-all}
 use Rattle.engine.proofs.Following.{fires-defeasibly, out-defeasibly}
 use Rattle.engine.proofs.Marks.{kind-strict, or-false, not-isnt}
@@ -219,18 +219,18 @@ module _ (d : Theory) (m : List ℕ) (ready : Ready d m) (p t : ℕ) (tag : t < 
         ap (_and c)
         (ap₂ _and_ (ap isnt (sym (fires-defeasibly d m ready r l))) (ap isnt (sym (out-defeasibly d m ready r l)) ∙ sym (none-or-above (view m (has 3) r))))
 
-    settles : (t ≡ 2) ⊎ (t ≡ 3) → decides d 1 before after r ≡ settledBy (view m) t r
+    settles : (t ≡ 2) ⊎ (t ≡ 3) → decides d 1 before after r ≡ decidedBy (view m) t r
     unfolding decides
     settles c = ap (λ b. b and decided d 1 after r and isnt (decided d 1 before r)) (true-of _ (filled-intro (bodyOf d r) p used)) ∙ true-left _ _ ∙ ⊎-elim by-all by-one c
       where
-        by-all : t ≡ 2 → (decided d 1 after r and isnt (decided d 1 before r)) ≡ settledBy (view m) t r
+        by-all : t ≡ 2 → (decided d 1 after r and isnt (decided d 1 before r)) ≡ decidedBy (view m) t r
         by-all e =
             ap (λ b. b and isnt (decided d 1 before r)) (ap₂ _or_ (all-after e) (one-same 3 r (λ a _. other-tag a 3 (omega arith) (λ f. omega arith))))
             ∙ grown-all (allHave d before 2 r) (eqb (view m (has 2) r + 1) (view m sizeF r)) (oneHas d before 3 r) ∙ open-before _
             ∙ ap (λ b. isnt (eqb (view m (has 2) r) (view m sizeF r)) and eqb (view m (has 3) r) 0 and b)
             (false-or (eqb t 3) (eqb (view m (has 2) r + 1) (view m sizeF r)) (λ u. let f : t ≡ 3 = eqb→eq t 3 u in omega arith))
 
-        by-one : t ≡ 3 → (decided d 1 after r and isnt (decided d 1 before r)) ≡ settledBy (view m) t r
+        by-one : t ≡ 3 → (decided d 1 after r and isnt (decided d 1 before r)) ≡ decidedBy (view m) t r
         by-one e =
             ap (λ b. b and isnt (decided d 1 before r))
             (ap₂ _or_ (all-same 2 r (λ a _. other-tag a 2 (omega arith) (λ f. omega arith))) (true-of (oneHas d after 3 r) (one-after e)))
@@ -239,54 +239,54 @@ module _ (d : Theory) (m : List ℕ) (ready : Ready d m) (p t : ℕ) (tag : t < 
             (true-or (eqb t 3) (eqb (view m (has 2) r + 1) (view m sizeF r)) (eq→eqb t 3 e))
 
   -- what a rule adds to the cost of a definite tag, and of a defeasible one
-  definite-part : t < 2 → (r : ℕ) → r < d .rules → weigh (member p (bodyOf d r)) (priceBy (view m) t r) ≡ weigh (visits d 0 p r) 1
-  unfolding visits priceBy
+  definite-part : t < 2 → (r : ℕ) → r < d .rules → weigh (member p (bodyOf d r)) (chargeBy (view m) t r) ≡ weigh (visits d 0 p r) 1
+  unfolding visits chargeBy
   definite-part h r l =
       ap (weigh (member p (bodyOf d r))) (cond-true (ltb t 2) _ _ (lt→ltb t 2 h) ∙ ap (λ b. weigh b 1) (ap (λ k. eqb k 0) (ready .standing .index .kinds r l) ∙ kind-strict (kindOf d r)))
       ∙ weigh-both (member p (bodyOf d r)) (isStrict (kindOf d r)) 1
       ∙ ap (λ b. weigh (member p (bodyOf d r) and b) 1) (false-or (isnt (eqb 0 0)) (isStrict (kindOf d r)) (λ u. isnt-elim (eqb 0 0) u tt))
 
   defeasible-part : (t ≡ 2) ⊎ (t ≡ 3) → (r : ℕ) → r < d .rules → T (distinct (bodyOf d r))
-      → weigh (member p (bodyOf d r)) (priceBy (view m) t r) ≡ weigh (visits d 1 p r) 1 + weigh (decides d 1 before after r) (naming d r)
-  unfolding visits priceBy
+      → weigh (member p (bodyOf d r)) (chargeBy (view m) t r) ≡ weigh (visits d 1 p r) 1 + weigh (decides d 1 before after r) (naming d r)
+  unfolding visits chargeBy
   defeasible-part c r l apart = ⊎-elim yes no (test-cases (member p (bodyOf d r)))
     where
       late : T (ltb t 2) → ⊥
       late u = let h : t < 2 = ltb→lt t 2 u in ⊎-elim (λ e. omega arith) (λ e. omega arith) c
 
       yes : T (member p (bodyOf d r))
-          → weigh (member p (bodyOf d r)) (priceBy (view m) t r) ≡ weigh (visits d 1 p r) 1 + weigh (decides d 1 before after r) (naming d r)
+          → weigh (member p (bodyOf d r)) (chargeBy (view m) t r) ≡ weigh (visits d 1 p r) 1 + weigh (decides d 1 before after r) (naming d r)
       yes u =
           weigh-true _ _ u ∙ cond-false (ltb t 2) _ _ late
           ∙ ap₂ _+_ (sym (weigh-true (visits d 1 p r) 1 (and-intro _ _ u (or-left _ _ (isnt-intro (eqb 1 0) (λ v. v))))))
           (ap₂ weigh (sym (settles r l apart u c)) (ready .standing .index .namings r l))
 
       no : (T (member p (bodyOf d r)) → ⊥)
-          → weigh (member p (bodyOf d r)) (priceBy (view m) t r) ≡ weigh (visits d 1 p r) 1 + weigh (decides d 1 before after r) (naming d r)
+          → weigh (member p (bodyOf d r)) (chargeBy (view m) t r) ≡ weigh (visits d 1 p r) 1 + weigh (decides d 1 before after r) (naming d r)
       no n =
           weigh-false _ _ n ∙ ap₂ _+_ (sym (weigh-false (visits d 1 p r) 1 (λ u. n (and-left _ _ u)))) (sym (weigh-false _ _ (unused r n)))
 
   pub cost-by : ((r : ℕ) → r < d .rules → T (distinct (bodyOf d r)))
-      → 1 + total (d .rules) (λ r. weigh (member p (bodyOf d r)) (priceBy (view m) t r)) ≡ costOf d (t / 2) p before after
+      → 1 + total (d .rules) (λ r. weigh (member p (bodyOf d r)) (chargeBy (view m) t r)) ≡ costOf d (t / 2) p before after
   cost-by apart = ⊎-elim defeasible definite (at-most 2 t)
     where
-      definite : t < 2 → 1 + total (d .rules) (λ r. weigh (member p (bodyOf d r)) (priceBy (view m) t r)) ≡ costOf d (t / 2) p before after
+      definite : t < 2 → 1 + total (d .rules) (λ r. weigh (member p (bodyOf d r)) (chargeBy (view m) t r)) ≡ costOf d (t / 2) p before after
       definite h =
           let e : t / 2 ≡ 0 = omega arith in
           let c : costOf d (t / 2) p before after ≡ costOf d 0 p before after = ap (λ f. costOf d f p before after) e in
           let z : weigh (isnt (eqb 0 0)) (total (d .rules) (λ r. weigh (decides d 0 before after r) (naming d r))) ≡ 0 = weigh-false _ _ (λ u. isnt-elim (eqb 0 0) u tt) in
           let v : length (visited d 0 p) ≡ countBelow (d .rules) (visits d 0 p) = count-upto (d .rules) (visits d 0 p) in
-          let s : total (d .rules) (λ r. weigh (member p (bodyOf d r)) (priceBy (view m) t r)) ≡ countBelow (d .rules) (visits d 0 p) =
+          let s : total (d .rules) (λ r. weigh (member p (bodyOf d r)) (chargeBy (view m) t r)) ≡ countBelow (d .rules) (visits d 0 p) =
           total-ext (d .rules) _ _ (definite-part h) in
           added _ _ _ _ 0 (s ∙ sym (add-zero _)) v z ∙ sym c
 
-      defeasible : 2 ≤ t → 1 + total (d .rules) (λ r. weigh (member p (bodyOf d r)) (priceBy (view m) t r)) ≡ costOf d (t / 2) p before after
+      defeasible : 2 ≤ t → 1 + total (d .rules) (λ r. weigh (member p (bodyOf d r)) (chargeBy (view m) t r)) ≡ costOf d (t / 2) p before after
       defeasible h =
           let e : t / 2 ≡ 1 = omega arith in
           let c : costOf d (t / 2) p before after ≡ costOf d 1 p before after = ap (λ f. costOf d f p before after) e in
           let z : weigh (isnt (eqb 1 0)) (total (d .rules) (λ r. weigh (decides d 1 before after r) (naming d r))) ≡ total (d .rules) (λ r. weigh (decides d 1 before after r) (naming d r)) = weigh-true _ _ (isnt-intro (eqb 1 0) (λ u. u)) in
           let v : length (visited d 1 p) ≡ countBelow (d .rules) (visits d 1 p) = count-upto (d .rules) (visits d 1 p) in
-          let s : total (d .rules) (λ r. weigh (member p (bodyOf d r)) (priceBy (view m) t r))
+          let s : total (d .rules) (λ r. weigh (member p (bodyOf d r)) (chargeBy (view m) t r))
           ≡ countBelow (d .rules) (visits d 1 p) + total (d .rules) (λ r. weigh (decides d 1 before after r) (naming d r)) =
           total-ext (d .rules) _ _ (λ r l. defeasible-part (two-or-three t h tag) r l (apart r l)) ∙ total-add (d .rules) _ _ in
           added _ _ _ _ _ s v z ∙ sym c
@@ -360,30 +360,30 @@ module _ (b : List ℕ) (s : Sizes) (m : List ℕ) (x : ℕ) (accepted : judgeme
         let n : s .rules ≤ 1024 = few .1 in
         omega arith
 
-    pub cost-all : heldOf m x ≡ false → {k sum : ℕ} → k ≤ end → end ≤ k → sum ≡ costSoFar (λ i. priceBy (view m) (x % 4) (useAt m i)) first k
+    pub cost-all : heldOf m x ≡ false → {k sum : ℕ} → k ≤ end → end ≤ k → sum ≡ costSoFar (λ i. chargeBy (view m) (x % 4) (useAt m i)) first k
         → sum ≡ plainSystem (theoryIn b s) .cost (heldOf m) (adds (heldOf m) x) x
     unfolding systemOf theoryIn
     cost-all new {k} a z g =
-        g ∙ ap (λ i. costSoFar (λ j. priceBy (view m) (x % 4) (useAt m j)) first i) (le-antisymm a z)
-        ∙ ap (1 +_) (sum-listed (end - first) (s .rules) (λ j. useAt m (first + j)) _ (λ r. priceBy (view m) (x % 4) r) listed)
+        g ∙ ap (λ i. costSoFar (λ j. chargeBy (view m) (x % 4) (useAt m j)) first i) (le-antisymm a z)
+        ∙ ap (1 +_) (sum-listed (end - first) (s .rules) (λ j. useAt m (first + j)) _ (λ r. chargeBy (view m) (x % 4) r) listed)
         ∙ cost-by (theoryIn b s) m ready (x / 4) (x % 4) (mod-lt x (omega arith)) (ap (heldOf m) (join-split 4 x) ∙ new) (λ r _. bodies-apart b s accepted r)
         ∙ ap (λ y. costOf (theoryIn b s) (x % 4 / 2) (x / 4) (taggedBy 4 (heldOf m)) (taggedBy 4 (adds (heldOf m) y))) (join-split 4 x)
 
 -- the tests of a rule as they are read
 module _ (w : ℕ → ℕ → ℕ) (t r : ℕ) where
   pub read-settled : {a n f : ℕ} {o c x : Bool} → a ≡ w (has 2) r → n ≡ w sizeF r → f ≡ w (has 3) r → o ≡ (not (eqb a n) and eqb f 0)
-      → c ≡ (eqb t 3 or eqb (a + 1) n) → x ≡ (o and c) → x ≡ settledBy w t r
+      → c ≡ (eqb t 3 or eqb (a + 1) n) → x ≡ (o and c) → x ≡ decidedBy w t r
   read-settled ea en ef eo ec ex =
       ex
       ∙ ap₂ _and_ (eo ∙ ap₂ _and_ (not-isnt _ ∙ ap isnt (ap₂ eqb ea en)) (ap (λ f. eqb f 0) ef)) (ec ∙ ap (eqb t 3 or_) (ap₂ (λ a n. eqb (a + 1) n) ea en))
 
-  pub read-definite : {k x : ℕ} → t < 2 → k ≡ w kindF r → x ≡ weigh (eqb k 0) 1 → x ≡ priceBy w t r
-  unfolding priceBy
+  pub read-definite : {k x : ℕ} → t < 2 → k ≡ w kindF r → x ≡ weigh (eqb k 0) 1 → x ≡ chargeBy w t r
+  unfolding chargeBy
   read-definite h e f =
-      f ∙ ap (λ k. weigh (eqb k 0) 1) e ∙ sym (cond-true (ltb t 2) (weigh (eqb (w kindF r) 0) 1) (1 + weigh (settledBy w t r) (w namingF r)) (lt→ltb t 2 h))
+      f ∙ ap (λ k. weigh (eqb k 0) 1) e ∙ sym (cond-true (ltb t 2) (weigh (eqb (w kindF r) 0) 1) (1 + weigh (decidedBy w t r) (w namingF r)) (lt→ltb t 2 h))
 
-  pub read-defeasible : {b : Bool} {n x : ℕ} → 2 ≤ t → b ≡ settledBy w t r → n ≡ w namingF r → x ≡ weigh b n → 1 + x ≡ priceBy w t r
-  unfolding priceBy
+  pub read-defeasible : {b : Bool} {n x : ℕ} → 2 ≤ t → b ≡ decidedBy w t r → n ≡ w namingF r → x ≡ weigh b n → 1 + x ≡ chargeBy w t r
+  unfolding chargeBy
   read-defeasible h e f g =
       ap (1 +_) (g ∙ ap₂ weigh e f)
-      ∙ sym (cond-false (ltb t 2) (weigh (eqb (w kindF r) 0) 1) (1 + weigh (settledBy w t r) (w namingF r)) (λ u. let l : t < 2 = ltb→lt t 2 u in omega arith))
+      ∙ sym (cond-false (ltb t 2) (weigh (eqb (w kindF r) 0) 1) (1 + weigh (decidedBy w t r) (w namingF r)) (λ u. let l : t < 2 = ltb→lt t 2 u in omega arith))

@@ -30,9 +30,9 @@ module _ (w : ℕ → ℕ → ℕ) where
       processed q 1 and (eqb (w outF q) (w supportF q) or processed (complement q) 0 or ltb 0 (w unopposedF (complement q)))
 
   -- Document 01, its price: one antecedent more of rule r gets tag t, 2 or 3, and the rule was open and is decided by it
-  abbrev pub settledBy : ℕ → ℕ → Bool
-  settledBy t r = isnt (eqb (w (has 2) r) (w sizeF r)) and eqb (w (has 3) r) 0 and (eqb t 3 or eqb (w (has 2) r + 1) (w sizeF r))
+  abbrev pub decidedBy : ℕ → ℕ → Bool
+  decidedBy t r = isnt (eqb (w (has 2) r) (w sizeF r)) and eqb (w (has 3) r) 0 and (eqb t 3 or eqb (w (has 2) r + 1) (w sizeF r))
 
   -- what a use of a literal adds to the cost of its tag t: a definite tag visits strict rules alone
-  unfoldable pub priceBy : ℕ → ℕ → ℕ
-  priceBy t r = cond (ltb t 2) (weigh (eqb (w kindF r) 0) 1) (1 + weigh (settledBy t r) (w namingF r))
+  unfoldable pub chargeBy : ℕ → ℕ → ℕ
+  chargeBy t r = cond (ltb t 2) (weigh (eqb (w kindF r) 0) 1) (1 + weigh (decidedBy t r) (w namingF r))

@@ -1,5 +1,6 @@
 // The working memory (specs/Memory.antt). Its callers look at contracts alone, never at the words.
 pub mod counting;
+mod fields;
 pub mod index;
 pub mod listing;
 pub mod marks;

@@ -7,6 +7,8 @@ ghost use Rattle.table.specs.Format.{theoryIn};
 ghost use Rattle.table.specs.Refusals.{judgementOf};
 ghost use Rattle.engine.specs.Memory.{view, factF};
 ghost use Rattle.engine.specs.Indexing.{Facts, Firsts};
+use crate::memory::fields::FACT;
+use crate::memory::fields::FIRST;
 use crate::memory::words::store;
 use table::format::Sizes;
 use table::format::read_fact;
@@ -20,7 +22,7 @@ pub fn mark_facts(table: &[u8], s: Sizes, mem: &mut [u16])
     let mut i: u16 = 0;
     while i < s.facts {
         let literal = read_fact(table, s, i as usize);
-        store(mem, 20, literal.0 as usize, 1);
+        store(mem, FACT, literal.0 as usize, 1);
         i += 1;
     }
 }
@@ -34,6 +36,6 @@ pub fn mark_firsts(table: &[u8], s: Sizes, mem: &mut [u16])
     while 0 < i {
         i -= 1;
         let pair = read_pair(table, s, i as usize);
-        store(mem, 13, pair.stronger as usize, i);
+        store(mem, FIRST, pair.stronger as usize, i);
     }
 }

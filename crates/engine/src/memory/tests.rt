@@ -13,45 +13,28 @@ ghost use Rattle.table.specs.Format.{theoryIn};
 ghost use Rattle.table.specs.Refusals.{judgementOf};
 ghost use Rattle.engine.specs.Memory.{Ready, view, heldOf};
 ghost use Rattle.engine.specs.Api.{adds};
-ghost use Rattle.engine.specs.Deciding.{processed, definitelyBy, notDefinitelyBy, defeasiblyBy, notDefeasiblyBy, settledBy, priceBy};
+ghost use Rattle.engine.specs.Deciding.{processed, definitelyBy, notDefinitelyBy, defeasiblyBy, notDefeasiblyBy, decidedBy, chargeBy};
+use crate::memory::fields::COUNTERED;
+use crate::memory::fields::FACT;
+use crate::memory::fields::FIRING;
+use crate::memory::fields::HAS_PROVED;
+use crate::memory::fields::HAS_REFUTED;
+use crate::memory::fields::HEADED;
+use crate::memory::fields::KIND;
+use crate::memory::fields::NAMING;
+use crate::memory::fields::OUT;
+use crate::memory::fields::PROVED;
+use crate::memory::fields::REFUTED;
+use crate::memory::fields::SIZE;
+use crate::memory::fields::STRICT;
+use crate::memory::fields::SUPPORT;
+use crate::memory::fields::UNOPPOSED;
 use crate::memory::uses::end_use;
 use crate::memory::uses::first_use;
 use crate::memory::words::load;
 use crate::memory::words::load_use;
 use table::format::Literal;
 use table::format::Sizes;
-
-// Fields (specs/Memory.antt). Of a rule: how many antecedents have +∂, −∂; and what is written once.
-const WITH_PROVED: usize = 6;
-
-const WITH_REFUTED: usize = 7;
-
-const SIZE: usize = 8;
-
-const KIND: usize = 10;
-
-const NAMING: usize = 11;
-
-// Of a literal: written once, and counts.
-const STRICT: usize = 17;
-
-const SUPPORT: usize = 18;
-
-const HEADED: usize = 19;
-
-const FACT: usize = 20;
-
-const PROVED: usize = 21;
-
-const REFUTED: usize = 22;
-
-const FIRING: usize = 23;
-
-const OUT: usize = 24;
-
-const COUNTERED: usize = 25;
-
-const UNOPPOSED: usize = 26;
 
 fn both(a: bool, b: bool) -> bool
     ensures { λ r. ⌜ r ≡ (a and b) ⌝ }
@@ -137,13 +120,13 @@ pub fn follows(table: &[u8], s: Sizes, mem: &[u16], q: u16, t: u16) -> bool
 }
 
 // Whether one antecedent more of rule r with tag t, 2 or 3, decides the rule.
-fn settles(mem: &[u16], r: usize, t: u16) -> bool
+fn decides(mem: &[u16], r: usize, t: u16) -> bool
     requires { ⌜ (r < 1024) × (32768 ≤ length (now mem)) ⌝ }
-    ensures { λ x. ⌜ x ≡ settledBy (view (now (mem .entry))) t r ⌝ }
+    ensures { λ x. ⌜ x ≡ decidedBy (view (now (mem .entry))) t r ⌝ }
 {
-    let proved = load(mem, WITH_PROVED, r) as u32;
+    let proved = load(mem, HAS_PROVED, r) as u32;
     let size = load(mem, SIZE, r) as u32;
-    let open = both(proved != size, load(mem, WITH_REFUTED, r) == 0);
+    let open = both(proved != size, load(mem, HAS_REFUTED, r) == 0);
     both(open, either(t == 3, proved + 1 == size))
 }
 
@@ -154,14 +137,14 @@ fn weigh(test: bool, n: u16) -> u32
 }
 
 // What rule r, which uses a literal, adds to the cost of its tag t.
-fn price(mem: &[u16], r: usize, t: u16) -> u32
+fn charge(mem: &[u16], r: usize, t: u16) -> u32
     requires { ⌜ (r < 1024) × (32768 ≤ length (now mem)) ⌝ }
-    ensures { λ x. ⌜ (x ≡ priceBy (view (now (mem .entry))) t r) × (x ≤ 65536) ⌝ }
+    ensures { λ x. ⌜ (x ≡ chargeBy (view (now (mem .entry))) t r) × (x ≤ 65536) ⌝ }
 {
     if t < 2 {
         weigh(load(mem, KIND, r) == 0, 1)
     } else {
-        1 + weigh(settles(mem, r, t), load(mem, NAMING, r))
+        1 + weigh(decides(mem, r, t), load(mem, NAMING, r))
     }
 }
 
@@ -176,7 +159,7 @@ pub fn cost(table: &[u8], s: Sizes, mem: &[u16], x: u16) -> u32
     let mut sum: u32 = 1;
     let mut k = first;
     while k < end {
-        sum += price(mem, load_use(mem, k) as usize, t);
+        sum += charge(mem, load_use(mem, k) as usize, t);
         k += 1;
     }
     sum

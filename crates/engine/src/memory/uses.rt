@@ -5,14 +5,11 @@ ghost use lib.ListN.{length};
 ghost use Rattle.logic.specs.Theory.{headOf, kindOf, isStrict};
 ghost use Rattle.table.specs.Format.{theoryIn};
 ghost use Rattle.engine.specs.Memory.{Ready, view, useAt, usesFrom, usesF};
+use crate::memory::fields::HEAD;
+use crate::memory::fields::KIND;
+use crate::memory::fields::USES;
 use crate::memory::words::load;
 use table::format::Sizes;
-
-const USES: usize = 16;
-
-const HEAD: usize = 9;
-
-const KIND: usize = 10;
 
 // Where the uses of literal p begin, and where they end.
 pub fn first_use(mem: &[u16], p: u16) -> usize

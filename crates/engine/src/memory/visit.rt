@@ -12,6 +12,16 @@ ghost use Rattle.table.specs.Refusals.{judgementOf};
 ghost use Rattle.engine.specs.Memory.{Standing, Ready, view, has, sizeF, headF, heldOf, writtenOf};
 ghost use Rattle.engine.specs.Api.{Visited, Added};
 ghost use Rattle.engine.specs.Visits.{Sound, Raised, aim, reached, settled, spoken, spokenTo, isFree, turned, Open, Steady, Heard, Spread};
+use crate::memory::fields::BEATEN;
+use crate::memory::fields::FIRST;
+use crate::memory::fields::HAS;
+use crate::memory::fields::HAS_PROVED;
+use crate::memory::fields::HAS_REFUTED;
+use crate::memory::fields::HEAD;
+use crate::memory::fields::KIND;
+use crate::memory::fields::LOST;
+use crate::memory::fields::RIVALS;
+use crate::memory::fields::SIZE;
 use crate::memory::uses::end_use;
 use crate::memory::uses::first_use;
 use crate::memory::words::bump;
@@ -21,27 +31,6 @@ use crate::memory::words::store;
 use table::format::Literal;
 use table::format::Sizes;
 use table::format::read_pair;
-
-// Fields of the memory (specs/Memory.antt). Those of a rule's antecedents with a tag begin at HAS; with tag +∂ and −∂ they are these.
-const HAS: usize = 4;
-
-const HAS_PLUS: usize = 6;
-
-const HAS_MINUS: usize = 7;
-
-const SIZE: usize = 8;
-
-const HEAD: usize = 9;
-
-const KIND: usize = 10;
-
-const RIVALS: usize = 12;
-
-const FIRST: usize = 13;
-
-const BEATEN: usize = 14;
-
-const LOST: usize = 15;
 
 // A word as an index.
 fn wide(n: u16) -> usize
@@ -91,11 +80,11 @@ fn has_turned(mem: &[u16], r: usize, t: usize) -> bool
     ensures { λ x. ⌜ x ≡ turned (view (now (mem .entry))) t r ⌝ }
 {
     if t == 2 {
-        both(load(mem, BEATEN, r) == 1, load(mem, HAS_MINUS, r) == 0)
+        both(load(mem, BEATEN, r) == 1, load(mem, HAS_REFUTED, r) == 0)
     } else {
         both(
             load(mem, LOST, r) == load(mem, RIVALS, r),
-            load(mem, HAS_PLUS, r) == load(mem, SIZE, r),
+            load(mem, HAS_PROVED, r) == load(mem, SIZE, r),
         )
     }
 }

@@ -1,10 +1,10 @@
--- `engine::memory::tests::price` meets its contract. Assumes nothing.
+-- `engine::memory::tests::charge` meets its contract. Assumes nothing.
 use native.Mathlib.Omega.{arith}
 use Rattle.engine.specs.Memory.{view}
 use Rattle.engine.proofs.Costing.{read-definite, read-defeasible}
 use borrow.Author.Needs.{needs}
-use Rattle.engine.proofs.memory.tests.price.Statement.{statement}
-use Rattle.engine.proofs.memory.tests.price.Tie as tie
+use Rattle.engine.proofs.memory.tests.charge.Statement.{statement}
+use Rattle.engine.proofs.memory.tests.charge.Tie as tie
 
 load-requires : tie.Need-load-requires
 load-requires c κs = search needs
@@ -12,8 +12,8 @@ load-requires c κs = search needs
 weigh-requires : tie.Need-weigh-requires
 weigh-requires c κs = search needs
 
-settles-requires : tie.Need-settles-requires
-settles-requires c κs = search needs
+decides-requires : tie.Need-decides-requires
+decides-requires c κs = search needs
 
 load-requires-2 : tie.Need-load-requires-2
 load-requires-2 c κs = search needs
@@ -28,15 +28,15 @@ returns : tie.Need-returns
 returns c = (read-definite (view (c .before .before .before .before .args .mem .now)) _ _ (c .before .before .if1 .taken) (c .before .load .ensures) (c .weigh .ensures .0), omega arith)
 
 returns-2 : tie.Need-returns-2
-returns-2 c = (read-defeasible (view (c .before .before .before .before .before .args .mem .now)) _ _ (c .before .before .before .if1 .left) (c .before .before .settles .ensures) (c .before .load2 .ensures) (c .weigh2 .ensures .0), omega arith)
+returns-2 c = (read-defeasible (view (c .before .before .before .before .before .args .mem .now)) _ _ (c .before .before .before .if1 .left) (c .before .before .decides .ensures) (c .before .load2 .ensures) (c .weigh2 .ensures .0), omega arith)
 
-pub price-spec : {M : Type 1} → statement M
-price-spec =
+pub charge-spec : {M : Type 1} → statement M
+charge-spec =
     tie.close
     (tie.spec
     load-requires
     weigh-requires
-    settles-requires
+    decides-requires
     load-requires-2
     weigh-requires-2
     add-result

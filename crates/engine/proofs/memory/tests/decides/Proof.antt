@@ -1,9 +1,9 @@
--- `engine::memory::tests::settles` meets its contract. Assumes nothing.
+-- `engine::memory::tests::decides` meets its contract. Assumes nothing.
 use Rattle.engine.specs.Memory.{view}
 use Rattle.engine.proofs.Costing.{read-settled}
 use borrow.Author.Needs.{needs}
-use Rattle.engine.proofs.memory.tests.settles.Statement.{statement}
-use Rattle.engine.proofs.memory.tests.settles.Tie as tie
+use Rattle.engine.proofs.memory.tests.decides.Statement.{statement}
+use Rattle.engine.proofs.memory.tests.decides.Tie as tie
 
 load-requires : tie.Need-load-requires
 load-requires c κs = search needs
@@ -35,8 +35,8 @@ both-requires-2 c κs = search needs
 returns : tie.Need-returns
 returns c = read-settled (view (c .before .before .before .before .before .before .before .args .mem .now)) (c .before .before .before .before .before .before .before .args .t) _ (c .before .before .before .before .before .load .ensures) (c .before .before .before .before .load2 .ensures) (c .before .before .before .load3 .ensures) (c .before .before .both .ensures) (c .before .either .ensures) (c .both2 .ensures)
 
-pub settles-spec : {M : Type 1} → statement M
-settles-spec =
+pub decides-spec : {M : Type 1} → statement M
+decides-spec =
     tie.close
     (tie.spec
     load-requires
