@@ -38,7 +38,7 @@ fn try_conclusion(
     if is_written(mem, x) {
         return lines;
     }
-    if !follows(table, s, mem, q, t) {
+    if !follows(table, s, mem, x) {
         return lines;
     }
     write(table, s, mem, x);
@@ -69,8 +69,8 @@ pub fn try_both(table: &[u8], s: Sizes, mem: &mut [u16], log: &mut [u16], lines:
     requires { ⌜ (judgementOf (now table) ≡ Accepted s) × (q < 2 * s .atoms) × Logged (theoryIn (now table) s) (now mem) (now log) lines ⌝ }
     ensures { λ r. ⌜ Tried (theoryIn (now (table .entry)) s) (withTags 4 (q ∷ complement q ∷ [])) (now (mem .entry)) (now (log .entry)) lines (now (mem .exit)) (now (log .exit)) r ⌝ }
 {
-    let n = try_literal(table, s, mem, log, lines, q);
     let other = Literal(q).complement();
+    let n = try_literal(table, s, mem, log, lines, q);
     try_literal(table, s, mem, log, n, other.0)
 }
 

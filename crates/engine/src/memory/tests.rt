@@ -5,8 +5,6 @@ ghost use mathlib.Core.Bool.{false};
 ghost use lib.ListN.{length};
 ghost use Rattle.logic.specs.Tests.{_and_, _or_, weigh};
 ghost use Rattle.logic.specs.Theory.{complement};
-ghost use Rattle.logic.specs.Inference as inference;
-ghost use Rattle.logic.specs.Reading.{taggedBy};
 ghost use Rattle.logic.specs.Plain.{plainSystem};
 ghost use Rattle.table.specs.declared.judge.Judgement.the-variants.{Accepted};
 ghost use Rattle.table.specs.Format.{theoryIn};
@@ -106,11 +104,13 @@ fn not_defeasibly(mem: &[u16], q: u16) -> bool
     both(is_processed(mem, i, 1), beaten)
 }
 
-// Whether tag t of literal q follows.
-pub fn follows(table: &[u8], s: Sizes, mem: &[u16], q: u16, t: u16) -> bool
-    requires { ⌜ (judgementOf (now table) ≡ Accepted s) × Ready (theoryIn (now table) s) (now mem) × (q < 2 * s .atoms) × (t < 4) ⌝ }
-    ensures { λ r. ⌜ r ≡ inference.follows (theoryIn (now (table .entry)) s) (taggedBy 4 (heldOf (now (mem .entry)))) q t ⌝ }
+// Whether a conclusion follows: the remainder by four picks the inference rule.
+pub fn follows(table: &[u8], s: Sizes, mem: &[u16], x: u16) -> bool
+    requires { ⌜ (judgementOf (now table) ≡ Accepted s) × Ready (theoryIn (now table) s) (now mem) × (x < 8 * s .atoms) ⌝ }
+    ensures { λ r. ⌜ r ≡ plainSystem (theoryIn (now (table .entry)) s) .infers (heldOf (now (mem .entry))) x ⌝ }
 {
+    let q = x / 4;
+    let t = x % 4;
     match t {
         0 => definitely(mem, q as usize),
         1 => not_definitely(mem, q as usize),

@@ -4,11 +4,11 @@ use borrow.Author.Needs.{needs}
 use Rattle.engine.proofs.tries.try_both.Statement.{statement}
 use Rattle.engine.proofs.tries.try_both.Tie as tie
 
-try-literal-requires : tie.Need-try-literal-requires
-try-literal-requires c κs = search needs
-
 complement-requires : tie.Need-complement-requires
 complement-requires c κs = search needs
+
+try-literal-requires : tie.Need-try-literal-requires
+try-literal-requires c κs = search needs
 
 try-literal-requires-2 : tie.Need-try-literal-requires-2
 try-literal-requires-2 c κs = search needs
@@ -20,14 +20,14 @@ same-length-2 : tie.Need-same-length-2
 same-length-2 c = search needs
 
 returns : tie.Need-returns
-returns c = tried-both _ _ (c .before .before .before .before .before .before .before .complement .ensures) (c .before .before .before .before .before .before .before .before .before .before .before .before .try-literal .ensures) (c .before .before .before .before .try-literal2 .ensures)
+returns c = tried-both _ _ (c .before .before .before .before .before .before .before .before .before .before .before .before .before .before .complement .ensures) (c .before .before .before .before .before .before .before .before .before .before .before .try-literal .ensures) (c .before .before .before .before .try-literal2 .ensures)
 
 pub try-both-spec : {M : Type 1} → statement M
 try-both-spec =
     tie.close
     (tie.spec
-    try-literal-requires
     complement-requires
+    try-literal-requires
     try-literal-requires-2
     same-length
     same-length-2
