@@ -371,9 +371,9 @@ module _ (b : List ℕ) (s : Sizes) (m : List ℕ) (x : ℕ) (accepted : judgeme
 
 -- the tests of a rule as they are read
 module _ (w : ℕ → ℕ → ℕ) (t r : ℕ) where
-  pub read-settled : {a n f : ℕ} {o c x : Bool} → a ≡ w (has 2) r → n ≡ w sizeF r → f ≡ w (has 3) r → o ≡ (not (eqb a n) and eqb f 0)
+  pub read-decided : {a n f : ℕ} {o c x : Bool} → a ≡ w (has 2) r → n ≡ w sizeF r → f ≡ w (has 3) r → o ≡ (not (eqb a n) and eqb f 0)
       → c ≡ (eqb t 3 or eqb (a + 1) n) → x ≡ (o and c) → x ≡ decidedBy w t r
-  read-settled ea en ef eo ec ex =
+  read-decided ea en ef eo ec ex =
       ex
       ∙ ap₂ _and_ (eo ∙ ap₂ _and_ (not-isnt _ ∙ ap isnt (ap₂ eqb ea en)) (ap (λ f. eqb f 0) ef)) (ec ∙ ap (eqb t 3 or_) (ap₂ (λ a n. eqb (a + 1) n) ea en))
 

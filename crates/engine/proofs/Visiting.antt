@@ -11,7 +11,7 @@ use Rattle.logic.specs.Theory.{Theory, Kind, canSupport, complement, kindOf, he
 use Rattle.logic.proofs.Tests.{test-cases, test-eq, cond-cases, eq→eqb, and-intro, and-left, and-right, or-left, or-right, or-elim, lt-suc-cases, at-most}
 use Rattle.logic.proofs.Sums.{total-ext, total-point, weigh-true, weigh-false}
 use Rattle.engine.specs.Memory.{Counted, rivalsOf}
-use Rattle.engine.specs.Visits.{Grown, aim, reached, allowed, settled, turned, Tallied}
+use Rattle.engine.specs.Visits.{Grown, aim, reached, allowed, decidedFor, turned, Tallied}
 
 -- a claim about the fields of literals' counts, by cases
 literal-field : (P : ℕ → Type 0) → P 21 → P 22 → P 23 → P 24 → P 25 → P 26 → (f : ℕ) → 21 ≤ f → f < 27 → P f
@@ -24,18 +24,18 @@ rule-field : (P : ℕ → Type 0) → P 14 → P 15 → (g : ℕ) → 14 ≤ g �
 rule-field P a b g lo hi = ⊎-elim (λ h. subst P (omega arith) a) (λ i. subst P (sym i) b) (lt-suc-cases g 15 hi)
 
 -- the counts as Counted says them, and by fields
-pub tally-of : (d : Theory) (w : ℕ → ℕ → ℕ) (b : ℕ → ℕ → Bool) → Counted d w (b 14) (b 15) → Tallied d w (settled w) b
-unfolding settled reached allowed strictFor supporter _and_
+pub tally-of : (d : Theory) (w : ℕ → ℕ → ℕ) (b : ℕ → ℕ → Bool) → Counted d w (b 14) (b 15) → Tallied d w (decidedFor w) b
+unfolding decidedFor reached allowed strictFor supporter _and_
 tally-of d w b c =
     record {
       rules = λ g r lo hi h. rule-field (λ g. w g r ≡ rivalsOf d (b g) r) (c .beaten r h) (c .lost r h) g lo hi;
       literals =
-          λ f q lo hi h. literal-field (λ f. w f q ≡ countBelow (d .rules) (λ r. allowed f (kindOf d r) and eqb (headOf d r) q and settled w f r))
+          λ f q lo hi h. literal-field (λ f. w f q ≡ countBelow (d .rules) (λ r. allowed f (kindOf d r) and eqb (headOf d r) q and decidedFor w f r))
           (c .proved q h) (c .refuted q h) (c .firing q h) (c .out q h) (c .countered q h) (c .unopposed q h) f lo hi;
     }
 
-pub counted-of : (d : Theory) (w : ℕ → ℕ → ℕ) (b : ℕ → ℕ → Bool) → Tallied d w (settled w) b → Counted d w (b 14) (b 15)
-unfolding settled reached allowed strictFor supporter _and_
+pub counted-of : (d : Theory) (w : ℕ → ℕ → ℕ) (b : ℕ → ℕ → Bool) → Tallied d w (decidedFor w) b → Counted d w (b 14) (b 15)
+unfolding decidedFor reached allowed strictFor supporter _and_
 counted-of d w b t =
     record {
       beaten = λ r h. t .rules 14 r (omega arith) (omega arith) h;
@@ -215,10 +215,10 @@ reached-same w v t x e f = ap₂ (λ a n. cond (eqb (t % 2) 0) (eqb a n) (ltb 0 
 unfoldable tagOf : ℕ → ℕ
 tagOf f = cond (ltb f 25) (f - 21) (28 - f)
 
-settled-same : (w v : ℕ → ℕ → ℕ) (x : ℕ) → v 8 x ≡ w 8 x → v 12 x ≡ w 12 x → (f : ℕ) → 21 ≤ f → f < 27
-    → v (4 + tagOf f) x ≡ w (4 + tagOf f) x → (f ≡ 25 → v 14 x ≡ w 14 x) → (f ≡ 26 → v 15 x ≡ w 15 x) → settled v f x ≡ settled w f x
-unfolding settled tagOf
-settled-same w v x s n = literal-field (λ f. v (4 + tagOf f) x ≡ w (4 + tagOf f) x → (f ≡ 25 → v 14 x ≡ w 14 x) → (f ≡ 26 → v 15 x ≡ w 15 x) → settled v f x ≡ settled w f x)
+decided-same : (w v : ℕ → ℕ → ℕ) (x : ℕ) → v 8 x ≡ w 8 x → v 12 x ≡ w 12 x → (f : ℕ) → 21 ≤ f → f < 27
+    → v (4 + tagOf f) x ≡ w (4 + tagOf f) x → (f ≡ 25 → v 14 x ≡ w 14 x) → (f ≡ 26 → v 15 x ≡ w 15 x) → decidedFor v f x ≡ decidedFor w f x
+unfolding decidedFor tagOf
+decided-same w v x s n = literal-field (λ f. v (4 + tagOf f) x ≡ w (4 + tagOf f) x → (f ≡ 25 → v 14 x ≡ w 14 x) → (f ≡ 26 → v 15 x ≡ w 15 x) → decidedFor v f x ≡ decidedFor w f x)
     (λ e _ _. reached-same w v 0 x e s) (λ e _ _. reached-same w v 1 x e s) (λ e _ _. reached-same w v 2 x e s) (λ e _ _. reached-same w v 3 x e s)
     (λ e f _. ap₂ (λ a b. a or ltb 0 b) (reached-same w v 3 x e s) (f refl))
     (λ e _ f. ap₂ (λ a b. a and b) (reached-same w v 2 x e s) (ap₂ eqb (f refl) n))
@@ -226,31 +226,31 @@ settled-same w v x s n = literal-field (λ f. v (4 + tagOf f) x ≡ w (4 + tagOf
 pub grown-other : {f i k : ℕ} {w v : ℕ → ℕ → ℕ} → Grown f i k w v → (g j : ℕ) → (g ≡ f → j ≡ i → ⊥) → v g j ≡ w g j
 grown-other {f} g h j o = ⊎-elim (λ t. g .index h j (o (eqb→eq h f t))) (λ t. g .field h j (λ e. t (eq→eqb h f e))) (test-cases (eqb h f))
 
--- all that is settled stays, when a count of literals grows; and when a word of rule r for tag t does, all but what is of r and t
-pub settled-literal : (w v : ℕ → ℕ → ℕ) (h q k : ℕ) → 21 ≤ h → Grown h q k w v → (f x : ℕ) → 21 ≤ f → f < 27 → settled v f x ≡ settled w f x
+-- all that is decidedFor stays, when a count of literals grows; and when a word of rule r for tag t does, all but what is of r and t
+pub decided-literal : (w v : ℕ → ℕ → ℕ) (h q k : ℕ) → 21 ≤ h → Grown h q k w v → (f x : ℕ) → 21 ≤ f → f < 27 → decidedFor v f x ≡ decidedFor w f x
 unfolding tagOf
-settled-literal w v h q k l g f x lo hi =
-    settled-same w v x (g .field 8 x (λ e. omega arith)) (g .field 12 x (λ e. omega arith)) f lo hi
+decided-literal w v h q k l g f x lo hi =
+    decided-same w v x (g .field 8 x (λ e. omega arith)) (g .field 12 x (λ e. omega arith)) f lo hi
     (g .field (4 + tagOf f) x (λ e. cond-cases (λ z. 4 + z ≡ h → ⊥) (ltb f 25) (f - 21) (28 - f) (λ t i. let b : f < 25 = ltb→lt f 25 t in omega arith) (λ _ i. omega arith) e))
     (λ _. g .field 14 x (λ e. omega arith)) (λ _. g .field 15 x (λ e. omega arith))
 
-pub settled-tag : (w v : ℕ → ℕ → ℕ) (t r : ℕ) → t < 4 → Grown (4 + t) r 1 w v → (f x : ℕ) → 21 ≤ f → f < 27 → (x ≡ r → (f ≡ 21 + t) ⊎ (f + t ≡ 28) → ⊥) → settled v f x ≡ settled w f x
+pub decided-tag : (w v : ℕ → ℕ → ℕ) (t r : ℕ) → t < 4 → Grown (4 + t) r 1 w v → (f x : ℕ) → 21 ≤ f → f < 27 → (x ≡ r → (f ≡ 21 + t) ⊎ (f + t ≡ 28) → ⊥) → decidedFor v f x ≡ decidedFor w f x
 unfolding tagOf
-settled-tag w v t r h g f x lo hi o =
-    settled-same w v x (g .field 8 x (λ e. omega arith)) (g .field 12 x (λ e. omega arith)) f lo hi
+decided-tag w v t r h g f x lo hi o =
+    decided-same w v x (g .field 8 x (λ e. omega arith)) (g .field 12 x (λ e. omega arith)) f lo hi
     (grown-other g (4 + tagOf f) x (λ e i. cond-cases (λ z. 4 + z ≡ 4 + t → ⊥) (ltb f 25) (f - 21) (28 - f) (λ _ j. o i (inl (omega arith))) (λ _ j. o i (inr (omega arith))) e))
     (λ _. g .field 14 x (λ e. omega arith)) (λ _. g .field 15 x (λ e. omega arith))
 
 -- and the marks of literals have no part in it
-pub settled-marks : (w v : ℕ → ℕ → ℕ) → ((f i : ℕ) → 4 ≤ f → v f i ≡ w f i) → (f x : ℕ) → 21 ≤ f → f < 27 → settled v f x ≡ settled w f x
-settled-marks w v e f x lo hi =
-    settled-same w v x (e 8 x (omega arith)) (e 12 x (omega arith)) f lo hi (e (4 + tagOf f) x (omega arith)) (λ _. e 14 x (omega arith)) (λ _. e 15 x (omega arith))
+pub decided-marks : (w v : ℕ → ℕ → ℕ) → ((f i : ℕ) → 4 ≤ f → v f i ≡ w f i) → (f x : ℕ) → 21 ≤ f → f < 27 → decidedFor v f x ≡ decidedFor w f x
+decided-marks w v e f x lo hi =
+    decided-same w v x (e 8 x (omega arith)) (e 12 x (omega arith)) f lo hi (e (4 + tagOf f) x (omega arith)) (λ _. e 14 x (omega arith)) (λ _. e 15 x (omega arith))
 
 -- and when a count of rivals of rule x grows, all but what that decides of x
-pub settled-rule : (w v : ℕ → ℕ → ℕ) (t x k : ℕ) → 2 ≤ t → t < 4 → Grown (12 + t) x k w v → (f y : ℕ) → 21 ≤ f → f < 27 → (f ≡ 23 + t → y ≡ x → ⊥) → settled v f y ≡ settled w f y
+pub decided-rule : (w v : ℕ → ℕ → ℕ) (t x k : ℕ) → 2 ≤ t → t < 4 → Grown (12 + t) x k w v → (f y : ℕ) → 21 ≤ f → f < 27 → (f ≡ 23 + t → y ≡ x → ⊥) → decidedFor v f y ≡ decidedFor w f y
 unfolding tagOf
-settled-rule w v t x k l h g f y lo hi o =
-    settled-same w v y (g .field 8 y (λ e. omega arith)) (g .field 12 y (λ e. omega arith)) f lo hi
+decided-rule w v t x k l h g f y lo hi o =
+    decided-same w v y (g .field 8 y (λ e. omega arith)) (g .field 12 y (λ e. omega arith)) f lo hi
     (g .field (4 + tagOf f) y (λ e. cond-cases (λ z. 4 + z ≡ 12 + t → ⊥) (ltb f 25) (f - 21) (28 - f) (λ c i. let b : f < 25 = ltb→lt f 25 c in omega arith) (λ _ i. omega arith) e))
     (λ e. grown-other g 14 y (λ i. o (omega arith))) (λ e. grown-other g 15 y (λ i. o (omega arith)))
 
@@ -287,7 +287,7 @@ unopposed-turns a n l k h =
 -- how a rule that is told becomes countered (t = 2) or unopposed (t = 3)
 abbrev pub HeardTurns : ℕ → Type 0
 HeardTurns t = (w v : ℕ → ℕ → ℕ) (x : ℕ) (a : Bool) (k : Kind) → Grown (12 + t) x (weigh a 1) w v → v (12 + t) x ≤ v 12 x
-    → Turns (allowed (23 + t) k and settled v (23 + t) x) (allowed (23 + t) k and settled w (23 + t) x) (a and turned v t x)
+    → Turns (allowed (23 + t) k and decidedFor v (23 + t) x) (allowed (23 + t) k and decidedFor w (23 + t) x) (a and turned v t x)
 
 -- nothing was told
 unheard : (x y : Bool) → x ≡ y → Turns x y false
@@ -296,7 +296,7 @@ unheard true y e = subst (λ z. Turns true z false) e refl
 unheard false y e = subst (λ z. Turns false z false) e refl
 
 pub heard-countered : HeardTurns 2
-unfolding settled allowed turned reached weigh _and_
+unfolding decidedFor allowed turned reached weigh _and_
 heard-countered w v x true k g _ =
     ap₂ (λ a c. weigh (ltb 0 a or ltb 0 c) 1) seven (g .here) ∙ countered-turns (w 7 x) (w 14 x)
     ∙ sym (ap₂ (λ a c. weigh (ltb 0 (w 7 x) or ltb 0 (w 14 x)) 1 + weigh (eqb c 1 and eqb a 0) 1) seven (g .here))
@@ -307,7 +307,7 @@ heard-countered w v x false k g _ =
     unheard _ _ (ap₂ (λ a c. ltb 0 a or ltb 0 c) (g .field 7 x (λ e. omega arith)) (let e : v 14 x ≡ w 14 x = omega (arith, g .here) in e))
 
 pub heard-unopposed : HeardTurns 3
-unfolding settled allowed turned reached weigh _and_
+unfolding decidedFor allowed turned reached weigh _and_
 heard-unopposed w v x true k g b =
     ap₂ (λ a l. weigh (a and l) 1) fire (ap₂ eqb (g .here) twelve) ∙ unopposed-turns (w 6 x) (w 8 x) (w 15 x) (w 12 x) (omega (arith, g .here, twelve))
     ∙ sym (ap₂ (λ a l. weigh (eqb (w 6 x) (w 8 x) and eqb (w 15 x) (w 12 x)) 1 + weigh (l and a) 1) fire (ap₂ eqb (g .here) twelve))

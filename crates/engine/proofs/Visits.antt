@@ -14,9 +14,9 @@ use Rattle.logic.proofs.Sums.{weigh-true, weigh-false}
 use Rattle.logic.proofs.Pigeon.{count-le}
 use Rattle.engine.specs.Memory.{view, useAt, has, headF, usesF, kindNumber, Indexed, Standing}
 use Rattle.engine.specs.Api.{Kept, Visited}
-use Rattle.engine.specs.Visits.{Sound, Grown, Raised, aim, reached, allowed, settled, spoken, spokenTo, isFree, turned, Tallied, Open, Steady, Heard}
+use Rattle.engine.specs.Visits.{Sound, Grown, Raised, aim, reached, allowed, decidedFor, spoken, spokenTo, isFree, turned, Tallied, Open, Steady, Heard}
 use Rattle.engine.proofs.Views.{view-set, view-set-index, view-set-field, use-set, rest-set}
-use Rattle.engine.proofs.Visiting.{tally-of, counted-of, tally-ext, tally-literal, Turns, turns-yes, turns-no, turns-and, turns-of, turns-or, reached-step, reached-same, settled-literal, settled-tag, settled-marks, grown-other}
+use Rattle.engine.proofs.Visiting.{tally-of, counted-of, tally-ext, tally-literal, Turns, turns-yes, turns-no, turns-and, turns-of, turns-or, reached-step, reached-same, decided-literal, decided-tag, decided-marks, grown-other}
 
 -- the index depends on its own fields alone
 unfoldable indexField : ℕ → Bool
@@ -86,11 +86,11 @@ open-ext d m p p' b b' f g o =
     record { room = o .room; index = o .index; tally = tally-ext d (view m) (view m) p p' b b' (λ _ _ _ _. refl) f g (o .tally) }
 
 -- between two visits
-pub open-of : (d : Theory) (m : List ℕ) → Standing d m → Open d m (settled (view m)) (spoken d (view m))
+pub open-of : (d : Theory) (m : List ℕ) → Standing d m → Open d m (decidedFor (view m)) (spoken d (view m))
 unfolding reached
 open-of d m s = record { room = s .room; index = s .index; tally = tally-of d (view m) (spoken d (view m)) (s .counts) }
 
-pub standing-of : (d : Theory) (m : List ℕ) → Open d m (settled (view m)) (spoken d (view m)) → Standing d m
+pub standing-of : (d : Theory) (m : List ℕ) → Open d m (decidedFor (view m)) (spoken d (view m)) → Standing d m
 unfolding reached
 standing-of d m o = record { room = o .room; index = o .index; counts = counted-of d (view m) (spoken d (view m)) (o .tally) }
 
@@ -123,8 +123,8 @@ standing-marks d m n e u k s =
     (record {
       room = omega (arith, s .room, k .size);
       index = index-same d (view m) (view n) (useAt m) (useAt n) (λ f i t. e f i (let h : 7 < f = ltb→lt 7 f (and-left _ _ (and-left _ _ (and-left _ _ t))) in omega arith)) u (s .index);
-      tally = tally-ext d (view m) (view n) (settled (view m)) (settled (view n)) (spoken d (view m)) (spoken d (view n)) (λ f i lo _. e f i (omega arith))
-          (λ f x lo hi _. settled-marks (view m) (view n) e f x lo hi)
+      tally = tally-ext d (view m) (view n) (decidedFor (view m)) (decidedFor (view n)) (spoken d (view m)) (spoken d (view n)) (λ f i lo _. e f i (omega arith))
+          (λ f x lo hi _. decided-marks (view m) (view n) e f x lo hi)
           (λ g i lo hi _ _. reached-same (view m) (view n) (g - 12) (d .pair i .stronger) (e (4 + (g - 12)) (d .pair i .stronger) (omega arith)) (e 8 (d .pair i .stronger) (omega arith))) (open-of d m s .tally);
     })
 
@@ -150,19 +150,19 @@ allowed-support : (f : ℕ) (k : Kind) → 23 ≤ f → f < 25 → allowed f k �
 unfolding allowed
 allowed-support f k l h = cond-false (ltb f 23) _ _ (λ t. let c : f < 23 = ltb→lt f 23 t in omega arith) ∙ cond-true (ltb f 25) _ _ (lt→ltb f 25 h)
 
-settled-own : (w : ℕ → ℕ → ℕ) (t r : ℕ) → t < 4 → settled w (21 + t) r ≡ reached w t r
-unfolding settled
-settled-own w t r h = cond-true (ltb (21 + t) 25) _ _ (lt→ltb (21 + t) 25 (omega arith)) ∙ ap (λ z. reached w z r) (let e : 21 + t - 21 ≡ t = omega arith in e)
+decided-own : (w : ℕ → ℕ → ℕ) (t r : ℕ) → t < 4 → decidedFor w (21 + t) r ≡ reached w t r
+unfolding decidedFor
+decided-own w t r h = cond-true (ltb (21 + t) 25) _ _ (lt→ltb (21 + t) 25 (omega arith)) ∙ ap (λ z. reached w z r) (let e : 21 + t - 21 ≡ t = omega arith in e)
 
 -- and how the count of the rules of that kind grows with it
 own-turns : (w v : ℕ → ℕ → ℕ) (t r f : ℕ) (k : Kind) (l : Bool) → t < 4 → f ≡ 21 + t → allowed f k ≡ l → Grown (4 + t) r 1 w v → w (4 + t) r < w 8 r
-    → Turns (allowed f k and settled v f r) (allowed f k and settled w f r) (eqb (v (4 + t) r) (aim t (w 8 r)) and l)
+    → Turns (allowed f k and decidedFor v f r) (allowed f k and decidedFor w f r) (eqb (v (4 + t) r) (aim t (w 8 r)) and l)
 own-turns w v t r f k l h i a g b =
     ap₂ (λ z x. weigh (z and x) 1) a (at v) ∙ turns-of l _ _ _ (reached-step w v t r h g b)
     ∙ sym (ap₂ (λ z x. weigh (z and x) 1 + weigh (eqb (v (4 + t) r) (aim t (w 8 r)) and l) 1) a (at w))
   where
-    at : (u : ℕ → ℕ → ℕ) → settled u f r ≡ reached u t r
-    at u = ap (λ z. settled u z r) i ∙ settled-own u t r h
+    at : (u : ℕ → ℕ → ℕ) → decidedFor u f r ≡ reached u t r
+    at u = ap (λ z. decidedFor u z r) i ∙ decided-own u t r h
 
 -- of the words below 14, only that of r and t differs
 reached-elsewhere : (d : Theory) (m m' n : List ℕ) (t r u x : ℕ) → t < 4 → u < 4 → Raised (4 + t) r 1 m m' → Steady m' n → (u ≡ t → x ≡ r → ⊥)
@@ -176,13 +176,13 @@ pub visit-definite : (d : Theory) (m m' n : List ℕ) (t r : ℕ) → t < 2 → 
 visit-definite d m m' n t r h k s b g g' =
     visited-of d m m' n t r (omega arith) g (raised-steady (omega arith) g')
     (standing-of d n
-    (open-ext d n (settled (view m')) (settled (view n)) (spoken d (view m)) (spoken d (view n))
-    (λ f x lo hi _. settled-literal (view m') (view n) (21 + t) (headOf d r) _ (omega arith) (g' .words) f x lo hi)
+    (open-ext d n (decidedFor (view m')) (decidedFor (view n)) (spoken d (view m)) (spoken d (view n))
+    (λ f x lo hi _. decided-literal (view m') (view n) (21 + t) (headOf d r) _ (omega arith) (g' .words) f x lo hi)
     (λ f i lo hi _ _. reached-elsewhere d m m' n t r (f - 12) (d .pair i .stronger) (omega arith) (omega arith) g (raised-steady (omega arith) g') (λ e _. omega arith))
-    (open-literal d m' n (settled (view m)) (spoken d (view m)) (settled (view m')) (21 + t) r _ (omega arith) (omega arith) k g'
-    (λ f x lo hi _ o. settled-tag (view m) (view m') t r (omega arith) (g .words) f x lo hi (λ i. ⊎-elim (λ e. o e i) (λ e. omega arith)))
+    (open-literal d m' n (decidedFor (view m)) (spoken d (view m)) (decidedFor (view m')) (21 + t) r _ (omega arith) (omega arith) k g'
+    (λ f x lo hi _ o. decided-tag (view m) (view m') t r (omega arith) (g .words) f x lo hi (λ i. ⊎-elim (λ e. o e i) (λ e. omega arith)))
     (own-turns (view m) (view m') t r (21 + t) (kindOf d r) (isStrict (kindOf d r)) (omega arith) refl (allowed-strict (21 + t) (kindOf d r) (omega arith)) (g .words) b)
-    (open-tag d m m' (settled (view m)) (spoken d (view m)) t r (omega arith) g (open-of d m s)))))
+    (open-tag d m m' (decidedFor (view m)) (spoken d (view m)) t r (omega arith) g (open-of d m s)))))
 
 -- a claim about the two defeasible tags
 pub tag-cases : (P : ℕ → Type 0) → P 2 → P 3 → (t : ℕ) → 2 ≤ t → t < 4 → P t
@@ -194,16 +194,16 @@ none-above n = test-eq _ _ (λ t. eq→eqb n 0 (⊎-elim (λ h. omega arith) (λ
 -- how rule r itself becomes unopposed (t = 2) or countered (t = 3)
 FreeTurns : ℕ → Type 0
 FreeTurns t = (w v : ℕ → ℕ → ℕ) (r : ℕ) (k : Kind) → Grown (4 + t) r 1 w v → w (4 + t) r < w 8 r
-    → Turns (allowed (28 - t) k and settled v (28 - t) r) (allowed (28 - t) k and settled w (28 - t) r) (eqb (v (4 + t) r) (aim t (w 8 r)) and isFree v t r)
+    → Turns (allowed (28 - t) k and decidedFor v (28 - t) r) (allowed (28 - t) k and decidedFor w (28 - t) r) (eqb (v (4 + t) r) (aim t (w 8 r)) and isFree v t r)
 
 free-unopposed : FreeTurns 2
-unfolding FreeTurns settled allowed isFree _and_
+unfolding FreeTurns decidedFor allowed isFree _and_
 free-unopposed w v r k g b =
     turns-and (eqb (v 15 r) (v 12 r)) (reached v 2 r) (reached w 2 r) _ (reached-step w v 2 r (omega arith) g b)
     ∙ ap₂ (λ x y. weigh (reached w 2 r and eqb x y) 1 + weigh (eqb (v 6 r) (aim 2 (w 8 r)) and eqb (v 15 r) (v 12 r)) 1) (g .field 15 r (λ e. omega arith)) (g .field 12 r (λ e. omega arith))
 
 free-countered : FreeTurns 3
-unfolding FreeTurns settled allowed isFree _and_
+unfolding FreeTurns decidedFor allowed isFree _and_
 free-countered w v r k g b =
     turns-or (ltb 0 (v 14 r)) (reached v 3 r) (reached w 3 r) _ (reached-step w v 3 r (omega arith) g b)
     ∙ ap₂ (λ x y. weigh (reached w 3 r or ltb 0 x) 1 + weigh (eqb (v 7 r) (aim 3 (w 8 r)) and y) 1) (g .field 14 r (λ e. omega arith)) (none-above (v 14 r))
@@ -217,24 +217,24 @@ module _ (d : Theory) (m m1 m2 m3 : List ℕ) (t r : ℕ) (lo : 2 ≤ t) (hi : t
     (g1 : Raised (28 - t) (headOf d r) (weigh (eqb (view m1 (4 + t) r) (aim t (view m 8 r)) and isFree (view m1) t r) 1) m1 m2)
     (g2 : Raised (21 + t) (headOf d r) (weigh (eqb (view m1 (4 + t) r) (aim t (view m 8 r)) and canSupport (kindOf d r)) 1) m2 m3) where
   between : ℕ → ℕ → Bool
-  between f x = cond (eqb f (28 - t)) (settled (view m1) f x) (settled (view m) f x)
+  between f x = cond (eqb f (28 - t)) (decidedFor (view m1) f x) (decidedFor (view m) f x)
 
   own-first : Open d m2 between (spoken d (view m))
   unfolding between FreeTurns
   own-first =
-      open-literal d m1 m2 (settled (view m)) (spoken d (view m)) between (28 - t) r _ (omega arith) (omega arith) h g1
-      (λ f x l k _ o. cond-cases (λ z. z ≡ settled (view m) f x) (eqb f (28 - t)) _ _
-      (λ e. settled-tag (view m) (view m1) t r hi (g .words) f x l k (λ i _. o (eqb→eq _ _ e) i)) (λ _. refl))
+      open-literal d m1 m2 (decidedFor (view m)) (spoken d (view m)) between (28 - t) r _ (omega arith) (omega arith) h g1
+      (λ f x l k _ o. cond-cases (λ z. z ≡ decidedFor (view m) f x) (eqb f (28 - t)) _ _
+      (λ e. decided-tag (view m) (view m1) t r hi (g .words) f x l k (λ i _. o (eqb→eq _ _ e) i)) (λ _. refl))
       (ap (λ z. weigh (allowed (28 - t) (kindOf d r) and z) 1) (cond-true (eqb (28 - t) (28 - t)) _ _ (eqb-refl (28 - t)))
       ∙ free-turns t lo hi (view m) (view m1) r (kindOf d r) (g .words) b)
-      (open-tag d m m1 (settled (view m)) (spoken d (view m)) t r hi g (open-of d m s))
+      (open-tag d m m1 (decidedFor (view m)) (spoken d (view m)) t r hi g (open-of d m s))
 
-  own-second : Open d m3 (settled (view m1)) (spoken d (view m))
+  own-second : Open d m3 (decidedFor (view m1)) (spoken d (view m))
   unfolding between
   own-second =
-      open-literal d m2 m3 between (spoken d (view m)) (settled (view m1)) (21 + t) r _ (omega arith) (omega arith) h g2
-      (λ f x l k _ o. cond-cases (λ z. settled (view m1) f x ≡ z) (eqb f (28 - t)) _ _ (λ _. refl)
-      (λ n. settled-tag (view m) (view m1) t r hi (g .words) f x l k (λ i. ⊎-elim (λ e. o e i) (λ e. n (eq→eqb f (28 - t) (omega arith))))))
+      open-literal d m2 m3 between (spoken d (view m)) (decidedFor (view m1)) (21 + t) r _ (omega arith) (omega arith) h g2
+      (λ f x l k _ o. cond-cases (λ z. decidedFor (view m1) f x ≡ z) (eqb f (28 - t)) _ _ (λ _. refl)
+      (λ n. decided-tag (view m) (view m1) t r hi (g .words) f x l k (λ i. ⊎-elim (λ e. o e i) (λ e. n (eq→eqb f (28 - t) (omega arith))))))
       (own-turns (view m) (view m1) t r (21 + t) (kindOf d r) (canSupport (kindOf d r)) hi refl (allowed-support (21 + t) (kindOf d r) (omega arith) (omega arith)) (g .words) b
       ∙ ap (λ z. weigh (allowed (21 + t) (kindOf d r) and z) 1 + weigh (eqb (view m1 (4 + t) r) (aim t (view m 8 r)) and canSupport (kindOf d r)) 1)
       (sym (cond-false (eqb (21 + t) (28 - t)) _ _ (λ e. let i : 21 + t ≡ 28 - t = eqb→eq _ _ e in omega arith))))
@@ -243,10 +243,10 @@ module _ (d : Theory) (m m1 m2 m3 : List ℕ) (t r : ℕ) (lo : 2 ≤ t) (hi : t
   steady : Steady m1 m3
   steady = steady-trans (raised-steady (omega arith) g1) (raised-steady (omega arith) g2)
 
-  same : (f x : ℕ) → 21 ≤ f → f < 27 → settled (view m3) f x ≡ settled (view m1) f x
+  same : (f x : ℕ) → 21 ≤ f → f < 27 → decidedFor (view m3) f x ≡ decidedFor (view m1) f x
   same f x l k =
-      settled-literal (view m2) (view m3) (21 + t) (headOf d r) _ (omega arith) (g2 .words) f x l k
-      ∙ settled-literal (view m1) (view m2) (28 - t) (headOf d r) _ (omega arith) (g1 .words) f x l k
+      decided-literal (view m2) (view m3) (21 + t) (headOf d r) _ (omega arith) (g2 .words) f x l k
+      ∙ decided-literal (view m1) (view m2) (28 - t) (headOf d r) _ (omega arith) (g1 .words) f x l k
 
   elsewhere : (f i : ℕ) → 14 ≤ f → f < 16 → (T (eqb f (12 + t) and eqb (d .pair i .stronger) r) → ⊥) → spoken d (view m3) f i ≡ spoken d (view m) f i
   elsewhere f i l k o =
@@ -270,7 +270,7 @@ module _ (d : Theory) (m m1 m2 m3 : List ℕ) (t r : ℕ) (lo : 2 ≤ t) (hi : t
   own-done n =
       visited-of d m m1 m3 t r hi g steady
       (standing-of d m3
-      (open-ext d m3 (settled (view m1)) (settled (view m3)) (spoken d (view m)) (spoken d (view m3)) (λ f x l k _. same f x l k)
+      (open-ext d m3 (decidedFor (view m1)) (decidedFor (view m3)) (spoken d (view m)) (spoken d (view m3)) (λ f x l k _. same f x l k)
       (λ f i l k _ c. ⊎-elim
       (λ e. own-pair (view m3) f i e ∙ last
       ∙ turns-no _ _ _ turns (λ y. n (and-intro _ _ y (subst (λ z. T (canSupport (kindOf d z))) (eqb→eq _ _ (and-right _ _ e)) c))) ∙ sym (own-pair (view m) f i e))
@@ -281,10 +281,10 @@ module _ (d : Theory) (m m1 m2 m3 : List ℕ) (t r : ℕ) (lo : 2 ≤ t) (hi : t
     pub own-reached : T (reached (view m3) t r)
     own-reached = subst T (sym last) (turns-yes _ _ _ turns (and-left _ _ y) .1)
 
-    pub own-open : Open d m3 (settled (view m3)) (spokenTo d (view m3) t r 0)
+    pub own-open : Open d m3 (decidedFor (view m3)) (spokenTo d (view m3) t r 0)
     unfolding spokenTo
     own-open =
-        open-ext d m3 (settled (view m1)) (settled (view m3)) (spoken d (view m)) (spokenTo d (view m3) t r 0) (λ f x l k _. same f x l k)
+        open-ext d m3 (decidedFor (view m1)) (decidedFor (view m3)) (spoken d (view m)) (spokenTo d (view m3) t r 0) (λ f x l k _. same f x l k)
         (λ f i l k _ c. ⊎-elim
         (λ e. test-eq _ _
         (λ u. ⊎-elim (λ v. absurd (isnt-elim _ v e)) (λ v. let z : i < 0 = ltb→lt i 0 v in absurd (omega arith)) (or-elim _ _ (and-right _ _ u)))
@@ -293,7 +293,7 @@ module _ (d : Theory) (m m1 m2 m3 : List ℕ) (t r : ℕ) (lo : 2 ≤ t) (hi : t
         (test-cases (eqb f (12 + t) and eqb (d .pair i .stronger) r))) own-second
 
     -- and once they are, the visit is done
-    pub own-told : (n : List ℕ) → Steady m3 n → Open d n (settled (view n)) (spoken d (view n)) → Visited d t r m n
+    pub own-told : (n : List ℕ) → Steady m3 n → Open d n (decidedFor (view n)) (spoken d (view n)) → Visited d t r m n
     own-told n e o = visited-of d m m1 n t r hi g (steady-trans steady e) (standing-of d n o)
 
 -- a word that was stored one greater, and none
@@ -378,7 +378,7 @@ count-small d s m m' f r h st k e lo hi l v =
       omega (
         arith,
         open-of d m st .tally .literals f h lo hi c,
-        count-le (d .rules) (λ x. allowed f (kindOf d x) and eqb (headOf d x) h and settled (view m) f x),
+        count-le (d .rules) (λ x. allowed f (kindOf d x) and eqb (headOf d x) h and decidedFor (view m) f x),
         s .order .small,
       ),
     )
@@ -421,14 +421,14 @@ module _ (d : Theory) (m m1 : List ℕ) (t r : ℕ) (k : r < d .rules) (b : r < 
       yes j = subst T speaks-is (of-true z j)
 
       -- before the walk, after it, and without one
-      pub defeasible-walk : z ≡ true → T (canSupport (kindOf d r)) × T (reached (view m3) t r) × Open d m3 (settled (view m3)) (spokenTo d (view m3) t r 0)
+      pub defeasible-walk : z ≡ true → T (canSupport (kindOf d r)) × T (reached (view m3) t r) × Open d m3 (decidedFor (view m3)) (spokenTo d (view m3) t r 0)
       defeasible-walk j = (
         and-right _ _ (yes j),
         own-reached d m m1 m2 m3 t r lo hi k s g (first-raised hi) free-raised own-raised (yes j),
         own-open d m m1 m2 m3 t r lo hi k s g (first-raised hi) free-raised own-raised (yes j),
       )
 
-      pub defeasible-told : (n : List ℕ) → z ≡ true → Steady m3 n × Open d n (settled (view n)) (spoken d (view n)) → Visited d t r m n
+      pub defeasible-told : (n : List ℕ) → z ≡ true → Steady m3 n × Open d n (decidedFor (view n)) (spoken d (view n)) → Visited d t r m n
       defeasible-told n j o = own-told d m m1 m2 m3 t r lo hi k s g (first-raised hi) free-raised own-raised (yes j) n (o .0) (o .1)
 
       pub defeasible-end : z ≡ false → Visited d t r m m3

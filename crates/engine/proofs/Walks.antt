@@ -14,8 +14,8 @@ use Rattle.logic.proofs.Sums.{total-le, weigh-false, weigh-imply}
 use Rattle.logic.proofs.Pigeon.{count-le}
 use Rattle.logic.proofs.Literals.{complement-complement}
 use Rattle.engine.specs.Memory.{view, has, headF, rivalsOf, fires}
-use Rattle.engine.specs.Visits.{Sound, Raised, reached, allowed, settled, spoken, spokenTo, turned, Open, Steady, Heard}
-use Rattle.engine.proofs.Visiting.{tally-pair, Turns, reached-same, settled-literal, settled-rule, HeardTurns, heard-countered, heard-unopposed}
+use Rattle.engine.specs.Visits.{Sound, Raised, reached, allowed, decidedFor, spoken, spokenTo, turned, Open, Steady, Heard}
+use Rattle.engine.proofs.Visiting.{tally-pair, Turns, reached-same, decided-literal, decided-rule, HeardTurns, heard-countered, heard-unopposed}
 use Rattle.engine.proofs.Visits.{open-raised, open-literal, open-ext, raised-steady, steady-trans, tag-cases}
 
 -- whether a pair is one of rule r, for tag t
@@ -54,11 +54,11 @@ to-steady d m n t r i g k lo hi s =
 -- the memory m, in a walk that began with m₀, before pair i
 pub record Walking (d : Theory) (t r : ℕ) (m₀ m : List ℕ) (i : ℕ) : Type 0 where
   pub from : view m₀ 13 r ≤ i
-  pub tests : Open d m (settled (view m)) (spokenTo d (view m) t r i)
+  pub tests : Open d m (decidedFor (view m)) (spokenTo d (view m) t r i)
   pub steady : Steady m₀ m
   pub fires : T (reached (view m) t r)
 
-pub walk-start : (d : Theory) (m : List ℕ) (t r i : ℕ) → T (reached (view m) t r) → Open d m (settled (view m)) (spokenTo d (view m) t r 0) → i ≡ view m 13 r → Walking d t r m m i
+pub walk-start : (d : Theory) (m : List ℕ) (t r i : ℕ) → T (reached (view m) t r) → Open d m (decidedFor (view m)) (spokenTo d (view m) t r 0) → i ≡ view m 13 r → Walking d t r m m i
 walk-start d m t r i f o e =
     record {
       from = omega arith;
@@ -77,7 +77,7 @@ walk-start d m t r i f o e =
 
 module _ (d : Theory) (s : Sound d) (t r : ℕ) (m₀ m : List ℕ) (i : ℕ) (w : Walking d t r m₀ m i) where
   -- past the last of r's pairs
-  pub walk-end : (i < d .pairs → d .pair i .stronger ≡ r → ⊥) → Open d m (settled (view m)) (spoken d (view m))
+  pub walk-end : (i < d .pairs → d .pair i .stronger ≡ r → ⊥) → Open d m (decidedFor (view m)) (spoken d (view m))
   walk-end n = open-ext d m _ _ _ _ (λ _ _ _ _ _. refl)
       (λ g k _ _ l _. ⊎-elim (λ e. sym (to-told d (view m) t r i g k (before k l (eqb→eq _ _ (and-right _ _ e))))) (λ o. sym (to-other d (view m) t r i g k o)) (test-cases (own d t r g k))) (w .tests)
     where
@@ -111,7 +111,7 @@ module _ (d : Theory) (s : Sound d) (t r : ℕ) (m₀ m : List ℕ) (i : ℕ) (w
             arith,
             w .tests .tally .literals (23 + t) (view m 9 (d .pair i .weaker)) (omega arith) (omega arith) f,
             count-le (d .rules) (λ x.
-                allowed (23 + t) (kindOf d x) and eqb (headOf d x) (view m 9 (d .pair i .weaker)) and settled (view m) (23 + t) x),
+                allowed (23 + t) (kindOf d x) and eqb (headOf d x) (view m 9 (d .pair i .weaker)) and decidedFor (view m) (23 + t) x),
             s .order .small,
           ),
         )
@@ -139,7 +139,7 @@ module _ (d : Theory) (s : Sound d) (t r : ℕ) (m₀ m : List ℕ) (i : ℕ) (w
       speaks : T (spoken d (view m) (12 + t) i)
       speaks = let z : 12 + t - 12 ≡ t = omega arith in subst (λ x. T (reached (view m) x (d .pair i .stronger))) (sym z) (subst (λ x. T (reached (view m) t x)) (sym e) (w .fires))
 
-      first : Open d (g .middle) (settled (view m)) (spokenTo d (view m) t r (i + 1))
+      first : Open d (g .middle) (decidedFor (view m)) (spokenTo d (view m) t r (i + 1))
       first =
           open-raised d m (g .middle) _ _ _ _ (12 + t) (d .pair i .weaker) _ (inr (inl (omega arith, omega arith))) (g .first) (w .tests)
           (tally-pair d (view m) (view (g .middle)) _ _ (w .tests .tally) (spokenTo d (view m) t r (i + 1)) (12 + t) i _ (omega arith) (omega arith) h (g .first .words)
@@ -165,24 +165,24 @@ module _ (d : Theory) (s : Sound d) (t r : ℕ) (m₀ m : List ℕ) (i : ℕ) (w
           total-le (d .pairs) _ _ (λ k _. weigh-imply _ _ 1 (λ u. and-intro _ _ (and-left _ _ u) tt)) in
           omega arith
 
-      turns : Turns (allowed (23 + t) (kindOf d (d .pair i .weaker)) and settled (view (g .middle)) (23 + t) (d .pair i .weaker))
-          (allowed (23 + t) (kindOf d (d .pair i .weaker)) and settled (view m) (23 + t) (d .pair i .weaker))
+      turns : Turns (allowed (23 + t) (kindOf d (d .pair i .weaker)) and decidedFor (view (g .middle)) (23 + t) (d .pair i .weaker))
+          (allowed (23 + t) (kindOf d (d .pair i .weaker)) and decidedFor (view m) (23 + t) (d .pair i .weaker))
           (eqb (view m 9 (d .pair i .weaker)) q and turned (view (g .middle)) t (d .pair i .weaker))
       turns = tag-cases HeardTurns heard-countered heard-unopposed t lo hi (view m) (view (g .middle)) (d .pair i .weaker) (eqb (view m 9 (d .pair i .weaker)) q) (kindOf d (d .pair i .weaker)) (g .first .words) bound
 
       raised : Raised (23 + t) (headOf d (d .pair i .weaker)) (weigh (eqb (view m 9 (d .pair i .weaker)) q and turned (view (g .middle)) t (d .pair i .weaker)) 1) (g .middle) n
       raised = subst (λ z. Raised (23 + t) z (weigh (eqb (view m 9 (d .pair i .weaker)) q and turned (view (g .middle)) t (d .pair i .weaker)) 1) (g .middle) n) head (g .second)
 
-      same : (f x : ℕ) → 21 ≤ f → f < 27 → settled (view n) f x ≡ settled (view (g .middle)) f x
-      same f x a b = settled-literal (view (g .middle)) (view n) (23 + t) _ _ (omega arith) (raised .words) f x a b
+      same : (f x : ℕ) → 21 ≤ f → f < 27 → decidedFor (view n) f x ≡ decidedFor (view (g .middle)) f x
+      same f x a b = decided-literal (view (g .middle)) (view n) (23 + t) _ _ (omega arith) (raised .words) f x a b
 
       heard-steady : Steady m n
       heard-steady = steady-trans (raised-steady (omega arith) (g .first)) (raised-steady (omega arith) raised)
 
-      second : Open d n (settled (view n)) (spokenTo d (view m) t r (i + 1))
+      second : Open d n (decidedFor (view n)) (spokenTo d (view m) t r (i + 1))
       second =
-          open-literal d (g .middle) n (settled (view m)) _ (settled (view n)) (23 + t) (d .pair i .weaker) _ (omega arith) (omega arith) weak raised
-          (λ f x a b _ o. same f x a b ∙ settled-rule (view m) (view (g .middle)) t (d .pair i .weaker) _ lo hi (g .first .words) f x a b o)
+          open-literal d (g .middle) n (decidedFor (view m)) _ (decidedFor (view n)) (23 + t) (d .pair i .weaker) _ (omega arith) (omega arith) weak raised
+          (λ f x a b _ o. same f x a b ∙ decided-rule (view m) (view (g .middle)) t (d .pair i .weaker) _ lo hi (g .first .words) f x a b o)
           (ap (λ z. weigh (allowed (23 + t) (kindOf d (d .pair i .weaker)) and z) 1) (same (23 + t) (d .pair i .weaker) (omega arith) (omega arith)) ∙ turns) first
 
       pub walk-next : Walking d t r m₀ n (i + 1)

@@ -138,18 +138,18 @@ module _ (d : Theory) (p : T (proper d)) (budget : ℕ) where
       adds-done : (y : ℕ) → adds (heldOf mem) next y ≡ member y (g .done ++ (next ∷ []))
       adds-done y = ap (λ b. b or eqb y next) (g .held y) ∙ member-more (g .done) next y
 
-      module _ (price : ℕ) (paid : price ≡ plainSystem d .cost (heldOf mem) (adds (heldOf mem) (getD log w 0)) (getD log w 0)) where
-        next-cost : price ≡ costAfter (plainSystem d) (g .done) next
+      module _ (due : ℕ) (paid : due ≡ plainSystem d .cost (heldOf mem) (adds (heldOf mem) (getD log w 0)) (getD log w 0)) where
+        next-cost : due ≡ costAfter (plainSystem d) (g .done) next
         next-cost = paid ∙ ap₂ (λ h k. plainSystem d .cost h k next) (fun-ext (g .held)) (fun-ext adds-done)
 
-        pub stands-stopped : budget - spent < price → Worked (run (plainSystem d) budget) mem₀ log₀ mem log (Stopped (record { lines = n; worked = w; spent = spent }))
+        pub stands-stopped : budget - spent < due → Worked (run (plainSystem d) budget) mem₀ log₀ mem log (Stopped (record { lines = n; worked = w; spent = spent }))
         stands-stopped h =
             ending false (next ∷ split .0) (split .1)
             (sym (g .same) ∙ ap (λ t. rest (plainSystem d) budget (g .done) t spent) (split .1)
             ∙ rest-stops (plainSystem d) (plain-lawful d p) budget (g .done) next (split .0) spent (subst (λ k. budget - spent < k) next-cost h))
 
-        pub stands-next : price ≤ budget - spent → (mem′ log′ : List ℕ) (n′ w′ spent′ : ℕ) → Processed d (getD log w 0) mem log n mem′ log′ n′ → w′ ≡ w + 1
-            → spent′ ≡ spent + price → Stands d budget mem₀ log₀ mem′ log′ n′ w′ spent′
+        pub stands-next : due ≤ budget - spent → (mem′ log′ : List ℕ) (n′ w′ spent′ : ℕ) → Processed d (getD log w 0) mem log n mem′ log′ n′ → w′ ≡ w + 1
+            → spent′ ≡ spent + due → Stands d budget mem₀ log₀ mem′ log′ n′ w′ spent′
         stands-next h mem′ log′ n′ w′ spent′ k ew es =
             record {
               done = g .done ++ (next ∷ []);

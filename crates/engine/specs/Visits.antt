@@ -40,8 +40,8 @@ reached w t r = cond (eqb (t % 2) 0) (fires w t r) (isOut w t r)
 unfoldable pub allowed : ℕ → Kind → Bool
 allowed f k = cond (ltb f 23) (isStrict k) (cond (ltb f 25) (canSupport k) true)
 
-unfoldable pub settled : (ℕ → ℕ → ℕ) → ℕ → ℕ → Bool
-settled w f r =
+unfoldable pub decidedFor : (ℕ → ℕ → ℕ) → ℕ → ℕ → Bool
+decidedFor w f r =
     cond (ltb f 25) (reached w (f - 21) r)
     (cond (eqb f 25) (reached w 3 r or ltb 0 (w beatenF r)) (reached w 2 r and eqb (w lostF r) (w rivalsF r)))
 

@@ -58,7 +58,7 @@ fn try_after(table: &[u8], s: Sizes, mem: &mut [u16], log: &mut [u16], lines: u3
     try_uses(table, s, mem, log, n, x / 4, x % 4 < 2)
 }
 
-// One more line is processed, for its price.
+// One more line is processed, for its cost.
 fn process(
     table: &[u8],
     s: Sizes,
@@ -66,21 +66,21 @@ fn process(
     log: &mut [u16],
     at: Progress,
     x: u16,
-    price: u32,
+    due: u32,
 ) -> Progress
     requires { ⌜ (judgementOf (now table) ≡ Accepted s) × Logged (theoryIn (now table) s) (now mem) (now log) (at .lines) × (x < 8 * s .atoms) × (writtenOf (now mem) x ≡ true) × (heldOf (now mem) x ≡ false) ⌝ }
-    requires { ⌜ (at .tally .worked < 4294967295) × (at .tally .spent + price < 4294967296) ⌝ }
-    ensures { λ r. ⌜ Processed (theoryIn (now (table .entry)) s) x (now (mem .entry)) (now (log .entry)) (at .lines) (now (mem .exit)) (now (log .exit)) (r .lines) × (r .tally .worked ≡ at .tally .worked + 1) × (r .tally .spent ≡ at .tally .spent + price) ⌝ }
+    requires { ⌜ (at .tally .worked < 4294967295) × (at .tally .spent + due < 4294967296) ⌝ }
+    ensures { λ r. ⌜ Processed (theoryIn (now (table .entry)) s) x (now (mem .entry)) (now (log .entry)) (at .lines) (now (mem .exit)) (now (log .exit)) (r .lines) × (r .tally .worked ≡ at .tally .worked + 1) × (r .tally .spent ≡ at .tally .spent + due) ⌝ }
 {
     let lines = try_after(table, s, mem, log, at.lines, x);
     let tally = Tally {
         worked: at.tally.worked + 1,
-        spent: at.tally.spent + price,
+        spent: at.tally.spent + due,
     };
     Progress { lines, tally }
 }
 
-// The lines are processed; the first whose price does not fit what is left stops the run.
+// The lines are processed; the first whose cost does not fit what is left stops the run.
 pub fn work(
     table: &[u8],
     s: Sizes,
@@ -103,15 +103,15 @@ pub fn work(
     };
     while at.tally.worked < at.lines {
         let x = log[at.tally.worked as usize];
-        let price = cost(table, s, mem, x);
-        if budget - at.tally.spent < price {
+        let due = cost(table, s, mem, x);
+        if budget - at.tally.spent < due {
             return Answer::Stopped(Counts {
                 lines: at.lines,
                 worked: at.tally.worked,
                 spent: at.tally.spent,
             });
         }
-        at = process(table, s, mem, log, at, x, price);
+        at = process(table, s, mem, log, at, x, due);
     }
     Answer::Finished(Counts {
         lines: at.lines,

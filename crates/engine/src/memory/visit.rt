@@ -11,7 +11,7 @@ ghost use Rattle.table.specs.Format.{theoryIn};
 ghost use Rattle.table.specs.Refusals.{judgementOf};
 ghost use Rattle.engine.specs.Memory.{Standing, Ready, view, has, sizeF, headF, heldOf, writtenOf};
 ghost use Rattle.engine.specs.Api.{Visited, Added};
-ghost use Rattle.engine.specs.Visits.{Sound, Raised, aim, reached, settled, spoken, spokenTo, isFree, turned, Open, Steady, Heard, Spread};
+ghost use Rattle.engine.specs.Visits.{Sound, Raised, aim, reached, decidedFor, spoken, spokenTo, isFree, turned, Open, Steady, Heard, Spread};
 use crate::memory::fields::BEATEN;
 use crate::memory::fields::FIRST;
 use crate::memory::fields::HAS;
@@ -108,9 +108,9 @@ fn tell(mem: &mut [u16], q: usize, x: usize, t: usize)
 // Every rule that rule r is over is told.
 fn walk(table: &[u8], s: Sizes, mem: &mut [u16], r: usize, t: usize)
     requires { ⌜ Sound (theoryIn (now table) s) × (r < s .rules) × (2 ≤ t) × (t < 4) × T (canSupport (kindOf (theoryIn (now table) s) r)) ⌝ }
-    requires { ⌜ T (reached (view (now mem)) t r) × Open (theoryIn (now table) s) (now mem) (settled (view (now mem))) (spokenTo (theoryIn (now table) s) (view (now mem)) t r 0) ⌝ }
+    requires { ⌜ T (reached (view (now mem)) t r) × Open (theoryIn (now table) s) (now mem) (decidedFor (view (now mem))) (spokenTo (theoryIn (now table) s) (view (now mem)) t r 0) ⌝ }
     requires { ⌜ (r < 1024) × (32768 ≤ length (now mem)) ⌝ }
-    ensures { λ _. ⌜ Steady (now (mem .entry)) (now (mem .exit)) × Open (theoryIn (now (table .entry)) s) (now (mem .exit)) (settled (view (now (mem .exit)))) (spoken (theoryIn (now (table .entry)) s) (view (now (mem .exit)))) ⌝ }
+    ensures { λ _. ⌜ Steady (now (mem .entry)) (now (mem .exit)) × Open (theoryIn (now (table .entry)) s) (now (mem .exit)) (decidedFor (view (now (mem .exit)))) (spoken (theoryIn (now (table .entry)) s) (view (now (mem .exit)))) ⌝ }
 {
     let n = wide(s.pairs);
     let head = Literal(load(mem, HEAD, r));

@@ -1,4 +1,4 @@
--- `engine::memory::tests::cost` meets its contract. The loop's invariant: the sum is 1 and the prices of the uses passed. Assumes nothing.
+-- `engine::memory::tests::cost` meets its contract. The loop's invariant: the sum is 1 and the costs of the uses passed. Assumes nothing.
 use Prim.Native.Nat.{_+_, _-_, _*_, _%_, _≤_}
 use native.Mathlib.Omega.{arith}
 use mathlib.Core.Path.{_≡_, _∙_, ap}

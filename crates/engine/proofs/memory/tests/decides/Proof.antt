@@ -1,6 +1,6 @@
 -- `engine::memory::tests::decides` meets its contract. Assumes nothing.
 use Rattle.engine.specs.Memory.{view}
-use Rattle.engine.proofs.Costing.{read-settled}
+use Rattle.engine.proofs.Costing.{read-decided}
 use borrow.Author.Needs.{needs}
 use Rattle.engine.proofs.memory.tests.decides.Statement.{statement}
 use Rattle.engine.proofs.memory.tests.decides.Tie as tie
@@ -33,7 +33,7 @@ both-requires-2 : tie.Need-both-requires-2
 both-requires-2 c κs = search needs
 
 returns : tie.Need-returns
-returns c = read-settled (view (c .before .before .before .before .before .before .before .args .mem .now)) (c .before .before .before .before .before .before .before .args .t) _ (c .before .before .before .before .before .load .ensures) (c .before .before .before .before .load2 .ensures) (c .before .before .before .load3 .ensures) (c .before .before .both .ensures) (c .before .either .ensures) (c .both2 .ensures)
+returns c = read-decided (view (c .before .before .before .before .before .before .before .args .mem .now)) (c .before .before .before .before .before .before .before .args .t) _ (c .before .before .before .before .before .load .ensures) (c .before .before .before .before .load2 .ensures) (c .before .before .before .load3 .ensures) (c .before .before .both .ensures) (c .before .either .ensures) (c .both2 .ensures)
 
 pub decides-spec : {M : Type 1} → statement M
 decides-spec =
