@@ -13,7 +13,7 @@ fn high(w: u16) -> u8 {
 }
 
 // Puts a word at its place, if there is such a place.
-fn put(bytes: &mut [u8], i: usize, w: u16) {
+pub fn put(bytes: &mut [u8], i: usize, w: u16) {
     if i < bytes.len() / 2 {
         bytes[2 * i] = low(w);
         bytes[2 * i + 1] = high(w);

@@ -1,6 +1,6 @@
 -- The plain reading: its inference rules are local and opposed, so demands 2 and 3 hold of its runs. Assumes nothing.
 use Prim.Native.Nat.{ℕ, zero, suc, _+_, _-_, _*_, _/_, _%_, _≤_, _<_}
-use native.Mathlib.Nat.{mul-assoc}
+use native.Mathlib.Nat.{mul-assoc, le-refl}
 use native.Mathlib.Omega.{arith}
 use mathlib.Core.Path.{_≡_, refl, sym, _∙_, ap, subst}
 use mathlib.Core.Logic.{_⊎_, inl, inr, ⊎-elim}
@@ -207,7 +207,7 @@ module _ (d : Theory) (p : T (proper d)) where
   plain-weighed = reading-weighed plain plain-rules d plain-lawful (bound d) (omega arith)
 
   -- conclusions are below 8A
-  conclusions-below : (l : List ℕ) → T (derivation (plainSystem d) l) → (x : ℕ) → T (member x l) → x < 2 * (4 * d .atoms)
+  pub conclusions-below : (l : List ℕ) → T (derivation (plainSystem d) l) → (x : ℕ) → T (member x l) → x < 2 * (4 * d .atoms)
   unfolding systemOf
   conclusions-below l t x m = let b : x < 4 * (2 * d .atoms) = derives-all-below (plainSystem d) [] l t x m in omega arith
 
@@ -218,6 +218,11 @@ module _ (d : Theory) (p : T (proper d)) where
   -- Demands 2 and 3 of document 01, for every budget.
   pub plain-demands : (budget : ℕ) → Demands (plainSystem d) (bound d) (5 * size d) budget
   plain-demands = demands (plainSystem d) plain-lawful (bound d) plain-weighed (5 * size d) start-paid (omega arith)
+
+  -- the bound is a budget that finishes
+  pub plain-finishes : (budget : ℕ) → bound d ≤ budget → T (run (plainSystem d) budget .finished)
+  unfolding systemOf
+  plain-finishes budget h = demands (plainSystem d) plain-lawful (bound d) plain-weighed (bound d) (omega arith) (le-refl (bound d)) budget .enough h
 
   -- at most 4A conclusions
   pub plain-lines : (budget : ℕ) → lines (run (plainSystem d) budget) ≤ 4 * d .atoms

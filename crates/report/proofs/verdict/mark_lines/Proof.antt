@@ -1,0 +1,66 @@
+-- `report::verdict::mark_lines` meets its contract. The loop's invariant: the lines passed are marked. Assumes nothing.
+use Prim.Native.Nat.{_-_, _≤_}
+use native.Mathlib.Omega.{arith}
+use mathlib.Core.Path.{_≡_, _∙_, sym}
+use lib.ListN.{length, take, length-set}
+use Rattle.report.specs.Printing.{Marked}
+use Rattle.report.proofs.Marking.{clear-length, clear-marked, mark-next, all-marked}
+use borrow.Author.Needs.{needs}
+use Rattle.report.proofs.verdict.mark_lines.Statement.{statement}
+use Rattle.report.proofs.verdict.mark_lines.Tie as tie
+use Rattle.report.proofs.verdict.mark_lines.Reads as reads
+use Rattle.report.proofs.verdict.mark_lines.Lts as lts
+use Rattle.report.proofs.verdict.wide.Reads as wide-reads
+
+abbrev Inv-loop : tie.InvT-loop
+Inv-loop log n marks₀ i₀ marks i = (i ≤ n) × (length marks ≡ 4096) × Marked (take i log) marks
+
+abbrev μ-loop : tie.MeasureT-loop
+μ-loop log n marks₀ i₀ marks i = n - i
+
+loop-holds : tie.Need-loop-holds Inv-loop μ-loop
+loop-holds c = (omega arith, clear-length (c .before .before .pre .clear), clear-marked (c .before .before .pre .clear))
+
+mul-wide : tie.Need-mul-wide Inv-loop μ-loop
+mul-wide c = search needs
+
+shared-slice-read-wide : tie.Need-shared-slice-read-wide Inv-loop μ-loop
+shared-slice-read-wide c = omega arith
+
+wide-requires : tie.Need-wide-requires Inv-loop μ-loop
+wide-requires c κs = search needs
+
+slice-write-marks : tie.Need-slice-write-marks Inv-loop μ-loop
+slice-write-marks c = omega (arith, c .wide .ensures, c .before .before .before .before .before .before .pre .below (c .before .before .before .loop .i) (c .before .before .loop-test .taken))
+
+add-i : tie.Need-add-i Inv-loop μ-loop
+add-i c = search needs
+
+loop-less : tie.Need-loop-less Inv-loop μ-loop
+loop-less c = search needs
+
+loop-again : tie.Need-loop-again Inv-loop μ-loop
+loop-again c = (omega arith, simp length-set (c .before .before .before .loop .inv .1), mark-next (c .before .before .before .loop .marks) (c .before .before .before .before .before .before .args .log .now) (c .wide .ensures) (omega arith) (c .before .before .before .loop .inv .1) (c .before .before .before .loop .inv .2))
+
+same-length : tie.Need-same-length Inv-loop μ-loop
+same-length c = c .before .loop .inv .1 ∙ sym (clear-length (c .before .before .before .before .pre .clear))
+
+returns : tie.Need-returns Inv-loop μ-loop
+returns c = all-marked (c .before .loop .marks) (c .before .before .before .before .args .log .now) (c .before .loop .inv .0) (c .loop-test .left) (c .before .loop .inv .2)
+
+pub mark-lines-spec : {M : Type 1} → statement M
+mark-lines-spec =
+    tie.close
+    (tie.spec
+    Inv-loop
+    μ-loop
+    loop-holds
+    mul-wide
+    shared-slice-read-wide
+    wide-requires
+    slice-write-marks
+    add-i
+    loop-less
+    loop-again
+    same-length
+    returns)

@@ -1,0 +1,103 @@
+-- `report::verdict::put_verdict` meets its contract. Assumes nothing.
+use Prim.Native.Nat.{_+_, _≤_}
+use mathlib.Core.Path.{sym, subst}
+use lib.ListN.{length}
+use Rattle.report.specs.Text.{wordOf}
+use Rattle.report.specs.Printing.{Put, meant}
+use Rattle.report.proofs.Words.{is-go, is-hold, is-split, is-open}
+use borrow.Author.Needs.{needs}
+use Rattle.report.proofs.verdict.put_verdict.Statement.{statement}
+use Rattle.report.proofs.verdict.put_verdict.Tie as tie
+
+enum-told : tie.Need-enum-told
+enum-told c = search needs
+
+slice-aggregate-put : tie.Need-slice-aggregate-put
+slice-aggregate-put c = search needs
+
+put-requires : tie.Need-put-requires
+unfolding meant wordOf
+put-requires c κs = subst (λ v. (c .before .before .before .before .before .args .at) + length (wordOf (meant v)) ≤ length (c .before .before .before .before .before .args .out .now)) (sym (is-go (c .before .before .before .before .before .args .v) (c .before .before .before .match .keys1))) (c .before .before .before .before .before .pre)
+
+enum-told-2 : tie.Need-enum-told-2
+enum-told-2 c = search needs
+
+slice-aggregate-put-2 : tie.Need-slice-aggregate-put-2
+slice-aggregate-put-2 c = search needs
+
+put-requires-2 : tie.Need-put-requires-2
+unfolding meant wordOf
+put-requires-2 c κs = subst (λ v. (c .before .before .before .before .before .args .at) + length (wordOf (meant v)) ≤ length (c .before .before .before .before .before .args .out .now)) (sym (is-hold (c .before .before .before .before .before .args .v) (c .before .before .before .match .keys2))) (c .before .before .before .before .before .pre)
+
+enum-told-3 : tie.Need-enum-told-3
+enum-told-3 c = search needs
+
+slice-aggregate-put-3 : tie.Need-slice-aggregate-put-3
+slice-aggregate-put-3 c = search needs
+
+put-requires-3 : tie.Need-put-requires-3
+unfolding meant wordOf
+put-requires-3 c κs = subst (λ v. (c .before .before .before .before .before .args .at) + length (wordOf (meant v)) ≤ length (c .before .before .before .before .before .args .out .now)) (sym (is-split (c .before .before .before .before .before .args .v) (c .before .before .before .match .keys3))) (c .before .before .before .before .before .pre)
+
+enum-told-4 : tie.Need-enum-told-4
+enum-told-4 c = search needs
+
+slice-aggregate-put-4 : tie.Need-slice-aggregate-put-4
+slice-aggregate-put-4 c = search needs
+
+put-requires-4 : tie.Need-put-requires-4
+unfolding meant wordOf
+put-requires-4 c κs = subst (λ v. (c .before .before .before .before .before .args .at) + length (wordOf (meant v)) ≤ length (c .before .before .before .before .before .args .out .now)) (sym (is-open (c .before .before .before .before .before .args .v) (c .before .before .before .match .keys4))) (c .before .before .before .before .before .pre)
+
+same-length : tie.Need-same-length
+same-length c = search needs
+
+returns : tie.Need-returns
+unfolding meant wordOf
+returns c = subst (λ v. Put (c .before .before .before .before .before .before .before .before .args .out .now) (c .before .before .before .before .before .before .before .before .args .at) (wordOf (meant v)) (c .before .before .put .last .0) (c .before .before .put .result)) (is-go (c .before .before .before .before .before .before .before .before .args .v) (c .before .before .before .before .before .before .match .keys1)) (c .before .before .put .ensures)
+
+same-length-2 : tie.Need-same-length-2
+same-length-2 c = search needs
+
+returns-2 : tie.Need-returns-2
+unfolding meant wordOf
+returns-2 c = subst (λ v. Put (c .before .before .before .before .before .before .before .before .args .out .now) (c .before .before .before .before .before .before .before .before .args .at) (wordOf (meant v)) (c .before .before .put2 .last .0) (c .before .before .put2 .result)) (is-hold (c .before .before .before .before .before .before .before .before .args .v) (c .before .before .before .before .before .before .match .keys2)) (c .before .before .put2 .ensures)
+
+same-length-3 : tie.Need-same-length-3
+same-length-3 c = search needs
+
+returns-3 : tie.Need-returns-3
+unfolding meant wordOf
+returns-3 c = subst (λ v. Put (c .before .before .before .before .before .before .before .before .args .out .now) (c .before .before .before .before .before .before .before .before .args .at) (wordOf (meant v)) (c .before .before .put3 .last .0) (c .before .before .put3 .result)) (is-split (c .before .before .before .before .before .before .before .before .args .v) (c .before .before .before .before .before .before .match .keys3)) (c .before .before .put3 .ensures)
+
+same-length-4 : tie.Need-same-length-4
+same-length-4 c = search needs
+
+returns-4 : tie.Need-returns-4
+unfolding meant wordOf
+returns-4 c = subst (λ v. Put (c .before .before .before .before .before .before .before .before .args .out .now) (c .before .before .before .before .before .before .before .before .args .at) (wordOf (meant v)) (c .before .before .put4 .last .0) (c .before .before .put4 .result)) (is-open (c .before .before .before .before .before .before .before .before .args .v) (c .before .before .before .before .before .before .match .keys4)) (c .before .before .put4 .ensures)
+
+pub put-verdict-spec : {M : Type 1} → statement M
+put-verdict-spec =
+    tie.close
+    (tie.spec
+    enum-told
+    slice-aggregate-put
+    put-requires
+    enum-told-2
+    slice-aggregate-put-2
+    put-requires-2
+    enum-told-3
+    slice-aggregate-put-3
+    put-requires-3
+    enum-told-4
+    slice-aggregate-put-4
+    put-requires-4
+    same-length
+    returns
+    same-length-2
+    returns-2
+    same-length-3
+    returns-3
+    same-length-4
+    returns-4)

@@ -1,0 +1,60 @@
+-- What the private functions of the report say to each other.
+use Prim.Native.Nat.{ℕ, _+_, _*_, _≤_, _<_}
+use mathlib.Core.Path.{_≡_}
+use mathlib.Core.Bool.{Bool}
+use mathlib.Core.List.{List, _++_}
+use lib.Dec.{eqb}
+use lib.ListN.{length, take, drop, getD, replicate}
+use Rattle.logic.specs.Tests.{member}
+use Rattle.logic.specs.Verdict as logic
+use Rattle.table.specs.Refusals.{numberOf}
+use Rattle.engine.specs.declared.answer.Counts.{Counts}
+use Rattle.engine.specs.declared.answer.Answer.{Answer}
+use Rattle.engine.specs.declared.answer.Answer.the-variants.{Refused, Stopped, Finished}
+use Rattle.report.specs.Sheet.{runSheet, refusedSheet}
+use Rattle.report.specs.declared.verdict.Verdict.{Verdict}
+use Rattle.report.specs.declared.verdict.Verdict.the-variants.{Go, Hold, Split, Open}
+
+-- A text was put at a place, and r is the place after it.
+pub record Put (out : List ℕ) (at : ℕ) (text out′ : List ℕ) (r : ℕ) : Type 0 where
+  pub bytes : out′ ≡ take at out ++ text ++ drop (at + length text) out
+  pub end : r ≡ at + length text
+
+-- The verdict that each case of the enum means.
+unfoldable pub meant : Verdict → logic.Verdict
+meant Go = logic.go
+meant Hold = logic.hold
+meant Split = logic.split
+meant Open = logic.«open»
+
+-- the lines that an array of marks has
+unfoldable pub marked : List ℕ → ℕ → Bool
+marked marks x = eqb (getD marks x 0) 1
+
+-- Marks that are to be made: none stands yet, and each of the first n lines has a place. The marks of a list of lines.
+pub record Markable (log : List ℕ) (n : ℕ) (marks : List ℕ) : Type 0 where
+  pub lines : n ≤ length log
+  pub below : (i : ℕ) → i < n → getD log i 0 < 4096
+  pub clear : marks ≡ replicate 4096 0
+
+abbrev pub Marked : List ℕ → List ℕ → Type 0
+Marked lines marks = (x : ℕ) → x < 4096 → marked marks x ≡ member x lines
+
+-- The sheet by the engine's answer and the log that it left.
+unfoldable pub sheetTo : ℕ → ℕ → List ℕ → Answer → List ℕ
+sheetTo atoms most log (Refused n) = refusedSheet (numberOf n)
+sheetTo atoms most log (Stopped c) = runSheet atoms (take (c .lines) log) (c .spent) most
+sheetTo atoms most log (Finished c) = runSheet atoms (take (c .lines) log) (c .spent) most
+
+-- What a run of an accepted table keeps to, so that its sheet has room: lines below 4,096, numbers of at most five digits.
+pub record FitsRun (n m : ℕ) (log : List ℕ) (c : Counts) : Type 0 where
+  pub atoms : n ≤ 512
+  pub lines : c .lines ≤ length log
+  pub below : (i : ℕ) → i < c .lines → getD log i 0 < 4096
+  pub spent : c .spent < 100000
+  pub most : m < 100000
+
+unfoldable pub Fits : ℕ → ℕ → List ℕ → Answer → Type 0
+Fits atoms most log (Refused n) = Unit
+Fits atoms most log (Stopped c) = FitsRun atoms most log c
+Fits atoms most log (Finished c) = FitsRun atoms most log c

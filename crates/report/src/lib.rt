@@ -1,0 +1,4 @@
+// The report: the sheet of a table (document 01, The sheet).
+pub mod sheet;
+mod text;
+mod verdict;

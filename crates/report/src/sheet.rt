@@ -1,0 +1,128 @@
+// Document 01, The sheet: judged, run with the bound as budget, and printed into an array.
+ghost use Prim.Native.Nat.{_+_, _*_, _≤_};
+ghost use mathlib.Core.Path.{_≡_};
+ghost use lib.ListN.{length, take};
+ghost use Rattle.logic.specs.Reading.{taggedBy};
+ghost use Rattle.logic.specs.Verdict.{verdict};
+ghost use Rattle.table.specs.Refusals.{numberOf};
+ghost use Rattle.report.specs.Sheet.{atomLine, atomLines, countLine, spentLine, runSheet, refusedSheet, sheetOf, Printed};
+ghost use Rattle.report.specs.Printing.{Put, FitsRun, meant, marked};
+use crate::text::put;
+use crate::text::put_number;
+use crate::verdict::Verdict;
+use crate::verdict::mark_lines;
+use crate::verdict::put_verdict;
+use crate::verdict::verdict_of;
+use engine::answer::Answer;
+use engine::answer::Counts;
+use engine::run::run;
+use table::format::Sizes;
+use table::format::read_sizes;
+use table::judge::Refusal;
+
+// A sheet: its bytes, and zeros past them. The longest has 5,041: 512 atoms that are split, and five digits spent of five.
+pub struct Sheet {
+    pub bytes: [u8; 5041],
+    pub length: usize,
+}
+
+// `atoms 2`
+fn put_count(out: &mut [u8], at: usize, atoms: u16) -> usize
+    requires { ⌜ at + length (countLine atoms) ≤ length (now out) ⌝ }
+    ensures { λ r. ⌜ Put (now (out .entry)) at (countLine atoms) (now (out .exit)) r ⌝ }
+{
+    let word = put(out, at, b"atoms ");
+    let number = put_number(out, word, atoms as u32);
+    put(out, number, b"\n")
+}
+
+// `0 go`
+fn put_atom(out: &mut [u8], at: usize, a: u16, v: Verdict) -> usize
+    requires { ⌜ at + length (atomLine a (meant v)) ≤ length (now out) ⌝ }
+    ensures { λ r. ⌜ Put (now (out .entry)) at (atomLine a (meant v)) (now (out .exit)) r ⌝ }
+{
+    let number = put_number(out, at, a as u32);
+    let space = put(out, number, b" ");
+    let word = put_verdict(out, space, v);
+    put(out, word, b"\n")
+}
+
+fn put_atoms(out: &mut [u8], from: usize, marks: &[u8], atoms: u16) -> usize
+    requires { ⌜ (from ≤ 10) × (atoms ≤ 512) × (length (now out) ≡ 5041) × (length (now marks) ≡ 4096) ⌝ }
+    ensures { λ r. ⌜ Put (now (out .entry)) from (atomLines (verdict (taggedBy 4 (marked (now (marks .entry))))) atoms) (now (out .exit)) r ⌝ }
+{
+    let mut at = from;
+    let mut a: u16 = 0;
+    while a < atoms {
+        at = put_atom(out, at, a, verdict_of(marks, a as usize));
+        a += 1;
+    }
+    at
+}
+
+// `spent 17 of 19`
+fn put_spent(out: &mut [u8], at: usize, spent: u32, most: u32) -> usize
+    requires { ⌜ at + length (spentLine spent most) ≤ length (now out) ⌝ }
+    ensures { λ r. ⌜ Put (now (out .entry)) at (spentLine spent most) (now (out .exit)) r ⌝ }
+{
+    let word = put(out, at, b"spent ");
+    let number = put_number(out, word, spent);
+    let of = put(out, number, b" of ");
+    let last = put_number(out, of, most);
+    put(out, last, b"\n")
+}
+
+fn put_run(out: &mut [u8], atoms: u16, log: &[u16], c: Counts, most: u32) -> usize
+    requires { ⌜ FitsRun atoms most (now log) c × (length (now out) ≡ 5041) ⌝ }
+    ensures { λ r. ⌜ Put (now (out .entry)) 0 (runSheet atoms (take (c .lines) (now (log .entry))) (c .spent) most) (now (out .exit)) r ⌝ }
+{
+    let mut marks = [0u8; 4096];
+    mark_lines(log, c.lines as usize, &mut marks);
+    let count = put_count(out, 0, atoms);
+    let last = put_atoms(out, count, &marks, atoms);
+    put_spent(out, last, c.spent, most)
+}
+
+// `refused 7`
+fn put_refused(out: &mut [u8], why: Refusal) -> usize
+    requires { ⌜ 10 ≤ length (now out) ⌝ }
+    ensures { λ r. ⌜ Put (now (out .entry)) 0 (refusedSheet (numberOf why)) (now (out .exit)) r ⌝ }
+{
+    let word = put(out, 0, b"refused ");
+    let last = put_number(out, word, why.number() as u32);
+    put(out, last, b"\n")
+}
+
+// 5A + F + N + 3B + 3P.
+fn bound_of(s: Sizes) -> u32
+    ensures { λ r. ⌜ r ≡ 5 * s .atoms + s .facts + s .rules + 3 * s .entries + 3 * s .pairs ⌝ }
+{
+    5 * (s.atoms as u32)
+        + s.facts as u32
+        + s.rules as u32
+        + 3 * (s.entries as u32)
+        + 3 * (s.pairs as u32)
+}
+
+fn put_sheet(table: &[u8], out: &mut [u8]) -> usize
+    requires { ⌜ length (now out) ≡ 5041 ⌝ }
+    ensures { λ r. ⌜ Put (now (out .entry)) 0 (sheetOf (now (table .entry))) (now (out .exit)) r ⌝ }
+{
+    let s = read_sizes(table);
+    let most = bound_of(s);
+    let mut log = [0u16; 2048];
+    let mut scratch = [0u16; 32768];
+    match run(table, most, &mut log, &mut scratch) {
+        Answer::Refused(why) => put_refused(out, why),
+        Answer::Stopped(c) => put_run(out, s.atoms, &log, c, most),
+        Answer::Finished(c) => put_run(out, s.atoms, &log, c, most),
+    }
+}
+
+pub fn sheet_of(table: &[u8]) -> Sheet
+    ensures { λ r. ⌜ Printed (now (table .entry)) (r .bytes) (r .length) ⌝ }
+{
+    let mut bytes = [0u8; 5041];
+    let length = put_sheet(table, &mut bytes);
+    Sheet { bytes, length }
+}

@@ -1,0 +1,85 @@
+// The verdict of an atom by the lines of a log.
+ghost use Prim.Native.Nat.{_+_, _*_, _≤_, _<_};
+ghost use mathlib.Core.Path.{_≡_};
+ghost use mathlib.Core.Bool.{cond};
+ghost use lib.ListN.{length, take};
+ghost use Rattle.logic.specs.Reading.{taggedBy};
+ghost use Rattle.logic.specs.Tests.{_and_};
+ghost use Rattle.logic.specs.Verdict.{go, hold, split, «open», verdict};
+ghost use Rattle.report.specs.Text.{wordOf};
+ghost use Rattle.report.specs.Printing.{Put, Markable, Marked, meant, marked};
+use crate::text::put;
+
+pub enum Verdict {
+    Go,
+    Hold,
+    Split,
+    Open,
+}
+
+fn wide(x: u16) -> usize
+    ensures { λ r. ⌜ r ≡ x ⌝ }
+{
+    x as usize
+}
+
+// 1 at each of the first n lines of a log.
+pub fn mark_lines(log: &[u16], n: usize, marks: &mut [u8])
+    requires { ⌜ Markable (now log) n (now marks) ⌝ }
+    ensures { λ _. ⌜ Marked (take n (now (log .entry))) (now (marks .exit)) ⌝ }
+{
+    let mut i: usize = 0;
+    while i < n {
+        let x = wide(log[i]);
+        marks[x] = 1;
+        i += 1;
+    }
+}
+
+fn has_line(marks: &[u8], x: usize) -> bool
+    requires { ⌜ x < length (now marks) ⌝ }
+    ensures { λ r. ⌜ r ≡ marked (now (marks .entry)) x ⌝ }
+{
+    marks[x] == 1
+}
+
+// The first that fits: +∂ of 2a, +∂ of 2a + 1, −∂ of both.
+fn first_fit(proved: bool, opposed: bool, refuted: bool, unopposed: bool) -> Verdict
+    ensures { λ r. ⌜ meant r ≡ cond proved go (cond opposed hold (cond (refuted and unopposed) split «open»)) ⌝ }
+{
+    if proved {
+        return Verdict::Go;
+    }
+    if opposed {
+        return Verdict::Hold;
+    }
+    if refuted {
+        if unopposed {
+            return Verdict::Split;
+        }
+    }
+    Verdict::Open
+}
+
+pub fn verdict_of(marks: &[u8], a: usize) -> Verdict
+    requires { ⌜ 8 * a + 8 ≤ length (now marks) ⌝ }
+    ensures { λ r. ⌜ meant r ≡ verdict (taggedBy 4 (marked (now (marks .entry)))) a ⌝ }
+{
+    let proved = has_line(marks, 8 * a + 2);
+    let opposed = has_line(marks, 8 * a + 6);
+    let refuted = has_line(marks, 8 * a + 3);
+    let unopposed = has_line(marks, 8 * a + 7);
+    first_fit(proved, opposed, refuted, unopposed)
+}
+
+pub fn put_verdict(out: &mut [u8], at: usize, v: Verdict) -> usize
+    requires { ⌜ at + length (wordOf (meant v)) ≤ length (now out) ⌝ }
+    ensures { λ r. ⌜ Put (now (out .entry)) at (wordOf (meant v)) (now (out .exit)) r ⌝ }
+{
+    match v {
+        Verdict::Go => put(out, at, b"go"),
+        Verdict::Hold => put(out, at, b"hold"),
+        Verdict::Split => put(out, at, b"split"),
+        Verdict::Open => put(out, at, b"open"),
+    }
+}

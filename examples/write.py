@@ -1,0 +1,106 @@
+#!/usr/bin/env python3
+"""Writes each example: NAME.table, the file that `./sheet-of` takes, and NAME.txt, what its atoms and rules mean.
+
+A literal is written as an atom's number, or its complement as ~n: 3 says that atom 3 holds, ~3 that it does not.
+A rule is (kind, body, head). A pair (t, s) says that rule t is over rule s. NAME.sheet is what ./sheet-of prints.
+"""
+import os
+
+STRICT, DEFEASIBLE, DEFEATER = range(3)
+KINDS = ["strict", "defeasible", "defeater"]
+
+EXAMPLES = {
+    "case-1": (
+        "The deck and bar 12 (document 01, case 1)",
+        ["the deck is clear", "bar 12 may travel"],
+        [0],
+        [(DEFEASIBLE, [0], 1), (DEFEASIBLE, [], ~1)],
+        [(0, 1)],
+        "By default bar 12 may not travel. A clear deck lets it, and that rule is over the other: go.",
+    ),
+    "platypus": (
+        "The platypus: two rules beat two as a team (document 000)",
+        ["it is a monotreme", "it has fur", "it lays eggs", "it has a bill", "it is a mammal"],
+        [0, 1, 2, 3],
+        [(DEFEASIBLE, [0], 4), (DEFEASIBLE, [1], 4), (DEFEASIBLE, [2], ~4), (DEFEASIBLE, [3], ~4)],
+        [(0, 2), (1, 3)],
+        "No rule beats both of the rules against atom 4, but each of these is beaten by one rule for it: go.",
+    ),
+    "defeater": (
+        "A defeater: haze stops a rule and proves nothing",
+        ["there is haze over the deck", "bar 3 may travel"],
+        [0],
+        [(DEFEASIBLE, [], 1), (DEFEATER, [0], ~1)],
+        [],
+        "Bar 3 may travel by default. The defeater says that haze is a reason against it, but it can't prove that the bar may not\n"
+        "travel. Neither has a proof, and both are refuted: split.",
+    ),
+    "house-and-tour": (
+        "The house against the tour",
+        [
+            "an actor stands under bar 7",
+            "the stage manager gave the cue",
+            "bar 7 may travel",
+            "bar 8 may travel",
+            "the follow spot is manned",
+            "bar 9 may travel",
+        ],
+        [0, 1],
+        [
+            (DEFEASIBLE, [1], 2),
+            (DEFEASIBLE, [0], ~2),
+            (DEFEASIBLE, [1], 3),
+            (DEFEASIBLE, [0], ~3),
+            (DEFEASIBLE, [4], 5),
+            (DEFEASIBLE, [5], 4),
+        ],
+        [(1, 0)],
+        "Rules 0, 2, 4 and 5 are the tour's, rules 1 and 3 the house's. On bar 7 the house's rule is over the tour's: hold. On bar 8\n"
+        "nobody said whose rule is stronger: split. Bar 9 rests on the follow spot and the follow spot on bar 9; nothing proves\n"
+        "either, and nothing refutes either: open.",
+    ),
+    "circle": (
+        "Priorities that go round",
+        ["bar 5 may travel"],
+        [],
+        [(DEFEASIBLE, [], 0), (DEFEASIBLE, [], ~0)],
+        [(0, 1), (1, 0)],
+        "Each rule is said to be stronger than the other. The table is refused by number 7, and nothing is concluded from it.",
+    ),
+}
+
+
+def literal(n):
+    return 2 * n if n >= 0 else 2 * ~n + 1
+
+
+def words(atoms, facts, rules, pairs):
+    entries = [(r, q) for r, (_, body, _) in enumerate(rules) for q in sorted(map(literal, body))]
+    left = [0 for _ in facts] + [k for k, _, _ in rules] + [r for r, _ in entries] + [t for t, _ in sorted(pairs)]
+    right = sorted(map(literal, facts)) + [literal(h) for _, _, h in rules] + [q for _, q in entries] + [s for _, s in sorted(pairs)]
+    return [len(atoms), len(facts), len(rules), len(entries), len(pairs)] + left + right
+
+
+def said(atoms, n):
+    return atoms[n] if n >= 0 else "not: " + atoms[~n]
+
+
+def text(title, atoms, facts, rules, pairs, why):
+    lines = [title, "", "Atoms"] + ["  %d  %s" % a for a in enumerate(atoms)]
+    if facts:
+        lines += ["Facts"] + ["  " + said(atoms, f) for f in facts]
+    lines += ["Rules"]
+    for r, (kind, body, head) in enumerate(rules):
+        lines.append("  %d  %s: %s => %s" % (r, KINDS[kind], " and ".join(said(atoms, b) for b in body) or "(always)", said(atoms, head)))
+    if pairs:
+        lines += ["Priorities"] + ["  rule %d over rule %d" % p for p in pairs]
+    return "\n".join(lines + ["", why, ""])
+
+
+if __name__ == "__main__":
+    here = os.path.dirname(os.path.abspath(__file__))
+    for name, (title, atoms, facts, rules, pairs, why) in EXAMPLES.items():
+        with open(os.path.join(here, name + ".table"), "wb") as f:
+            f.write(b"".join(w.to_bytes(2, "little") for w in words(atoms, facts, rules, pairs)))
+        with open(os.path.join(here, name + ".txt"), "w") as f:
+            f.write(text(title, atoms, facts, rules, pairs, why))
