@@ -3,7 +3,7 @@
 use Prim.Native.Nat.{ℕ, _+_, _-_, _*_, _/_, _%_, _≤_, _<_}
 use native.Mathlib.Nat.{div-add-mod}
 use native.Mathlib.Omega.{arith}
-use mathlib.Core.Path.{_≡_, refl, sym, _∙_, ap, subst, fun-ext}
+use mathlib.Core.Path.{_≡_, refl, sym, _∙_, ap, ap₂, subst, fun-ext}
 use mathlib.Core.Logic.{⊎-elim}
 use mathlib.Core.Bool.{Bool, true, false, cond, not}
 use mathlib.Core.List.{List}
@@ -12,6 +12,7 @@ use lib.ListN.{length, set, length-set}
 use borrow.Author.Tests.{ltb-false}
 use Rattle.logic.specs.Tests.{_or_, isnt}
 use Rattle.logic.specs.Theory.{Theory, Kind, strict, defeasible, defeater, isStrict}
+use Rattle.logic.proofs.Literals.{join-div, join-mod}
 use Rattle.logic.proofs.Tests.{test-cases, test-eq, true-of, false-of, of-false, cond-true, cond-false, eq→eqb, or-left, or-right, or-elim, isnt-intro}
 use Rattle.engine.specs.Memory.{view, useAt, mark, has, Indexed, Counted, Standing, Ready, fires, isOut, heldOf, writtenOf, antecedents, extra, kindNumber, usesF, usesFrom}
 use Rattle.engine.specs.Api.{Kept, Wrote, adds}
@@ -190,3 +191,11 @@ first-none w p e = sym (cond-true (eqb p 0) 0 (w usesF (p - 1)) (eq→eqb p 0 e)
 
 pub first-some : (w : ℕ → ℕ → ℕ) (p : ℕ) {r : ℕ} → (p ≡ 0 → ⊥) → r ≡ w usesF (p - 1) → r ≡ usesFrom w p
 first-some w p n e = e ∙ sym (cond-false (eqb p 0) 0 (w usesF (p - 1)) (λ t. n (eqb→eq p 0 t)))
+
+-- whether one of two marks is set
+pub written-at : (m : List ℕ) (q t : ℕ) → t < 4 → {w : ℕ} → w ≡ view m t q → not (eqb w 0) ≡ writtenOf m (4 * q + t)
+written-at m q t l {w} e = not-isnt (eqb w 0) ∙ ap (λ z. isnt (eqb z 0)) (e ∙ sym (ap₂ (λ f i. view m f i) (join-mod 4 q t l) (join-div 4 q t l)))
+
+pub settled-at : (m : List ℕ) (q t : ℕ) → t < 3 → {v w : ℕ} {r : Bool} → v ≡ view m t q → w ≡ view m (t + 1) q → r ≡ (not (eqb v 0) or not (eqb w 0))
+    → r ≡ (writtenOf m (4 * q + t) or writtenOf m (4 * q + (t + 1)))
+settled-at m q t l e f g = g ∙ ap₂ (λ x y. x or y) (written-at m q t (omega arith) e) (written-at m q (t + 1) (omega arith) f)

@@ -4,13 +4,13 @@ use native.Mathlib.Nat.{le-refl, le-trans}
 use native.Mathlib.Numerals.{add-one}
 use native.Mathlib.Omega.{arith}
 use mathlib.Core.Path.{_≡_, refl, sym, _∙_, ap, ap₂, subst, fun-ext}
-use mathlib.Core.Logic.{⊎-elim}
+use mathlib.Core.Logic.{_⊎_, inl, inr, ⊎-elim}
 use mathlib.Core.Bool.{Bool, true, false}
 use mathlib.Core.List.{List, [], _∷_, _++_, append-assoc, map}
 use lib.Dec.{T, eqb, eqb→eq, eqb-refl}
 use lib.ListN.{length, set, take, drop, length-append, length-set}
 use lib.Seq.{length-take-le, take-suc-set, drop-set-lt, drop-drop}
-use Rattle.logic.specs.Tests.{_or_, member, distinct, upto}
+use Rattle.logic.specs.Tests.{_and_, _or_, member, distinct, upto}
 use Rattle.logic.specs.Theory.{Theory, proper, complement}
 use Rattle.logic.specs.Inference.{follows}
 use Rattle.logic.specs.System.{System, held, derivation}
@@ -21,7 +21,7 @@ use Rattle.logic.proofs.Tests.{of-true, of-false, test-eq, and-intro, and-left,
 use Rattle.logic.proofs.Lists.{member-snoc, member-left, member-last, distinct-snoc}
 use Rattle.logic.proofs.Literals.{join-div, join-mod}
 use Rattle.logic.proofs.Derivations.{monotone, derivation-snoc, derives-all-below}
-use Rattle.logic.proofs.Coherence.{coherent-length}
+use Rattle.logic.proofs.Coherence.{Coherent, coherent-length}
 use Rattle.logic.proofs.Runs.{grow-append}
 use Rattle.logic.proofs.Plain.{plain-lawful, plain-coherent}
 use Rattle.table.specs.declared.format.Sizes.{Sizes}
@@ -113,16 +113,31 @@ module _ (d : Theory) (p : T (proper d)) where
         kept = kept-same m;
       }
 
+  -- the lines with a conclusion that follows are a derivation, so its opposite is no line
+  line-derives : (m l : List ℕ) (n x : ℕ) → Logged d m l n → x < 8 * d .atoms → T (plainSystem d .infers (heldOf m) x) → T (derivation (plainSystem d) (take n l ++ (x ∷ [])))
+  unfolding systemOf
+  line-derives m l n x g small t =
+      derivation-snoc (plainSystem d) (take n l) x (g .derives) (omega arith)
+      (monotone (plainSystem d) (plain-lawful d p) (heldOf m) (held (take n l)) x (λ y u. subst T (g .written y) (held-written m y u)) t)
+
+  opposite-never : (m l : List ℕ) (n x y : ℕ) → Logged d m l n → x < 8 * d .atoms → y ≡ complement x → T (member y (take n l)) → T (plainSystem d .infers (heldOf m) x) → ⊥
+  unfolding Coherent
+  opposite-never m l n x y g small e o t =
+      plain-coherent d p (take n l ++ (x ∷ [])) (line-derives m l n x g small t) x (member-last (take n l) x)
+      (subst (λ z. T (member z (take n l ++ (x ∷ [])))) e (member-left y (take n l) (x ∷ []) o))
+
+  -- a conclusion is not tried if it or its opposite is written
+  pub skips-settled : (m l : List ℕ) (n x y : ℕ) → Logged d m l n → x < 8 * d .atoms → y ≡ complement x → T (writtenOf m x) ⊎ T (writtenOf m y) → Tried d (x ∷ []) m l n m l n
+  skips-settled m l n x y g small e w =
+      skips m l n x g (λ t. ⊎-elim (λ u. subst T (g .written x) u) (λ u. absurd (opposite-never m l n x y g small e (subst T (g .written y) u) t)) w)
+
   -- a conclusion that follows and is not written goes to the end of the log
   module _ (m l : List ℕ) (n x : ℕ) (g : Logged d m l n) (small : x < 8 * d .atoms) (new : writtenOf m x ≡ false) (t : T (plainSystem d .infers (heldOf m) x)) where
     absent : T (member x (take n l)) → ⊥
     absent u = of-false _ new (subst T (sym (g .written x)) u)
 
     derives-more : T (derivation (plainSystem d) (take n l ++ (x ∷ [])))
-    unfolding systemOf
-    derives-more =
-        derivation-snoc (plainSystem d) (take n l) x (g .derives) (omega arith)
-        (monotone (plainSystem d) (plain-lawful d p) (heldOf m) (held (take n l)) x (λ y u. subst T (g .written y) (held-written m y u)) t)
+    derives-more = line-derives m l n x g small t
 
     once-more : T (distinct (take n l ++ (x ∷ [])))
     once-more = distinct-snoc (take n l) x (g .once) absent
@@ -233,6 +248,31 @@ pub tried-tags : {d : Theory} {m0 l0 m1 l1 m2 l2 m3 l3 m4 l4 : List ℕ} {n0 n1 
     → Tried d (withTags 4 (q ∷ [])) m0 l0 n0 m4 l4 n4
 unfolding withTags upto
 tried-tags {d} q f g h k = tried-on d (tried-on d (tried-on d f g) h) k
+
+-- one of each two opposite tags is written
+pub literal-settled : (b : List ℕ) (s : Sizes) → judgementOf b ≡ Accepted s → (q : ℕ) → q < 2 * s .atoms → (mem log : List ℕ) (n : ℕ) → Logged (theoryIn b s) mem log n → {u v w : Bool}
+    → u ≡ (writtenOf mem (4 * q + 0) or writtenOf mem (4 * q + (0 + 1))) → v ≡ (writtenOf mem (4 * q + 2) or writtenOf mem (4 * q + (2 + 1))) → w ≡ (u and v) → w ≡ true
+    → Tried (theoryIn b s) (withTags 4 (q ∷ [])) mem log n mem log n
+literal-settled b s e q l mem log n g {u} {v} {w} eu ev ew h =
+    tried-tags q (skip (4 * q + 0) (4 * q + 1) (omega arith) (omega arith) definite)
+    (skip (4 * q + 1) (4 * q + 0) (omega arith) (omega arith) (swap definite))
+    (skip (4 * q + 2) (4 * q + 3) (omega arith) (omega arith) defeasible)
+    (skip (4 * q + 3) (4 * q + 2) (omega arith) (omega arith) (swap defeasible))
+  where
+    test : T (u and v)
+    test = of-true _ (sym ew ∙ h)
+
+    definite : T (writtenOf mem (4 * q + 0)) ⊎ T (writtenOf mem (4 * q + 1))
+    definite = or-elim _ _ (subst T eu (and-left _ _ test))
+
+    defeasible : T (writtenOf mem (4 * q + 2)) ⊎ T (writtenOf mem (4 * q + 3))
+    defeasible = or-elim _ _ (subst T ev (and-right _ _ test))
+
+    swap : {A B : Type 0} → A ⊎ B → B ⊎ A
+    swap = ⊎-elim inr inl
+
+    skip : (x y : ℕ) → x < 8 * s .atoms → y ≡ complement x → T (writtenOf mem x) ⊎ T (writtenOf mem y) → Tried (theoryIn b s) (x ∷ []) mem log n mem log n
+    skip x y k f = skips-settled (theoryIn b s) (proper-in b s e) mem log n x y g (omega (arith, k, atoms-in b s)) f
 
 -- the literals of two lists tried one after the other
 pub tried-literals : {d : Theory} {m l m′ l′ m″ l″ : List ℕ} {n n′ n″ : ℕ} (qs rs : List ℕ) → Tried d (withTags 4 qs) m l n m′ l′ n′

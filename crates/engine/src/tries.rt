@@ -10,8 +10,10 @@ ghost use Rattle.table.specs.declared.judge.Judgement.the-variants.{Accepted};
 ghost use Rattle.table.specs.Format.{theoryIn};
 ghost use Rattle.table.specs.Refusals.{judgementOf};
 ghost use Rattle.engine.specs.Working.{Logged, Tried, headsIf, familyIf};
+use crate::memory::marks::is_settled;
 use crate::memory::marks::is_written;
 use crate::memory::marks::write;
+use crate::memory::tests::both;
 use crate::memory::tests::follows;
 use crate::memory::uses::end_use;
 use crate::memory::uses::first_use;
@@ -47,6 +49,17 @@ fn try_conclusion(
 }
 
 // The four tags of a literal.
+fn try_tags(table: &[u8], s: Sizes, mem: &mut [u16], log: &mut [u16], lines: u32, q: u16) -> u32
+    requires { ⌜ (judgementOf (now table) ≡ Accepted s) × (q < 2 * s .atoms) × Logged (theoryIn (now table) s) (now mem) (now log) lines ⌝ }
+    ensures { λ r. ⌜ Tried (theoryIn (now (table .entry)) s) (withTags 4 (q ∷ [])) (now (mem .entry)) (now (log .entry)) lines (now (mem .exit)) (now (log .exit)) r ⌝ }
+{
+    let a = try_conclusion(table, s, mem, log, lines, q, 0);
+    let b = try_conclusion(table, s, mem, log, a, q, 1);
+    let c = try_conclusion(table, s, mem, log, b, q, 2);
+    try_conclusion(table, s, mem, log, c, q, 3)
+}
+
+// The four tags of a literal. Of a tag and its opposite only one is ever written, so nothing is tried once one of each two is.
 pub fn try_literal(
     table: &[u8],
     s: Sizes,
@@ -58,10 +71,12 @@ pub fn try_literal(
     requires { ⌜ (judgementOf (now table) ≡ Accepted s) × (q < 2 * s .atoms) × Logged (theoryIn (now table) s) (now mem) (now log) lines ⌝ }
     ensures { λ r. ⌜ Tried (theoryIn (now (table .entry)) s) (withTags 4 (q ∷ [])) (now (mem .entry)) (now (log .entry)) lines (now (mem .exit)) (now (log .exit)) r ⌝ }
 {
-    let a = try_conclusion(table, s, mem, log, lines, q, 0);
-    let b = try_conclusion(table, s, mem, log, a, q, 1);
-    let c = try_conclusion(table, s, mem, log, b, q, 2);
-    try_conclusion(table, s, mem, log, c, q, 3)
+    let definite = is_settled(mem, q, 0);
+    let defeasible = is_settled(mem, q, 2);
+    if both(definite, defeasible) {
+        return lines;
+    }
+    try_tags(table, s, mem, log, lines, q)
 }
 
 // A literal and its complement.

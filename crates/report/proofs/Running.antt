@@ -202,6 +202,7 @@ printed b out r p =
     record {
       text = put-zeros 5041 (sheetOf b) out r p;
       count = omega (arith, p .end);
+      most = omega (arith, p .end, sheet-length b (judgementOf b) refl);
       fits = (inside, sym (length-take-le r out inside));
       finished = run-finished b;
       demands = run-demands b;

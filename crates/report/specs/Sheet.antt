@@ -63,6 +63,7 @@ sheetOf b = sheetBy (judgementOf b) b
 pub record Printed (b bytes : List ℕ) (n : ℕ) : Type 0 where
   pub text : bytes ≡ sheetOf b ++ replicate (5041 - length (sheetOf b)) 0
   pub count : n ≡ length (sheetOf b)
+  pub most : n ≤ 5041
   -- the part `&bytes[..n]` is there (it follows; a caller's proof finds it in this form)
   pub fits : (n ≤ length bytes) × (n ≡ length (take n bytes))
   pub finished : (s : Sizes) → judgementOf b ≡ Accepted s → T (runOf b (budgetOf b) .finished)

@@ -1,10 +1,12 @@
 -- Laws of the format's readers. Assumes nothing.
-use Prim.Native.Nat.{ℕ, zero, suc, _+_, _≤_, _<_}
-use native.Mathlib.Nat.{not-le-of-lt}
-use mathlib.Core.Path.{_≡_, refl, sym, _∙_, ap, subst}
-use mathlib.Core.Bool.{Bool}
+use Prim.Native.Nat.{ℕ, zero, suc, _+_, _*_, _/_, _≤_, _<_}
+use native.Mathlib.Nat.{not-le-of-lt, le-antisymm}
+use native.Mathlib.Numerals.{add-one}
+use native.Mathlib.Omega.{arith}
+use mathlib.Core.Path.{_≡_, refl, sym, _∙_, ap, ap₂, subst}
+use mathlib.Core.Bool.{Bool, false}
 use mathlib.Core.List.{List}
-use Rattle.logic.specs.Tests.{some}
+use Rattle.logic.specs.Tests.{_or_, some}
 use lib.Dec.{T, leb, leb→le, le→leb, ltb, lt→ltb}
 use Rattle.logic.proofs.Tests.{cond-true}
 use Rattle.table.specs.declared.format.Sizes.{Sizes}
@@ -22,6 +24,10 @@ pub right-read : (b : List ℕ) (s : Sizes) (from n i span r : ℕ) → i < n �
 unfolding rightIn
 right-read b s from n i span r h e f = f ∙ ap (λ k. word b (5 + k + (from + i))) e ∙ sym (cond-true (ltb i n) (right b s (from + i)) 0 (lt→ltb i n h))
 
+-- a word within the bytes
+pub half-below : {i n : ℕ} → 2 * i + 2 ≤ n → i < n / 2
+half-below h = omega arith
+
 -- a number read as r, against a limit
 pub at-least : {a r w : ℕ} → r ≡ w → a ≤ r → T (leb a w)
 at-least {a} {r} {w} e h = le→leb a w (subst (λ z. a ≤ z) e h)
@@ -33,3 +39,18 @@ not-at-least {a} {r} {w} e h t = not-le-of-lt h (subst (λ z. a ≤ z) (sym e) (
 pub right-scan : (b : List ℕ) (n limit from span k : ℕ) (r : Bool) → k ≡ span → r ≡ some n (λ i. leb limit (word b (5 + k + (from + i))))
     → r ≡ some n (λ i. leb limit (word b (5 + span + (from + i))))
 right-scan b n limit from span k r e f = f ∙ ap (λ j. some n (λ i. leb limit (word b (5 + j + (from + i))))) e
+
+-- a scan: no word, one word more, all words
+pub scan-none : (p : ℕ → Bool) → false ≡ some 0 p
+unfolding some
+scan-none p = refl
+
+pub some-next : (i : ℕ) (p : ℕ → Bool) → some (i + 1) p ≡ (some i p or p i)
+unfolding some
+some-next i p = ap (λ k. some k p) (add-one i)
+
+pub scan-next : (i : ℕ) (p : ℕ → Bool) {found test next : Bool} → found ≡ some i p → test ≡ p i → next ≡ (found or test) → next ≡ some (i + 1) p
+scan-next i p e f g = g ∙ ap₂ (λ x y. x or y) e f ∙ sym (some-next i p)
+
+pub scan-end : (i n : ℕ) (p : ℕ → Bool) {found : Bool} → i ≤ n → n ≤ i → found ≡ some i p → found ≡ some n p
+scan-end i n p h k e = e ∙ ap (λ z. some z p) (le-antisymm h k)

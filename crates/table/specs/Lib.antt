@@ -2,3 +2,4 @@ pub mod Format
 pub mod Refusals
 pub mod Bodies
 pub mod Release
+pub mod Keys

@@ -1,26 +1,26 @@
 // Fault 7 of document 01: Kahn's algorithm on the pairs, in local arrays. A rule is released once every rule that is stronger than
 // it was released; there is a cycle exactly if some rule never is.
-ghost use Prim.Native.Nat.{ℕ, _+_, _-_, _≤_, _<_};
+ghost use Prim.Native.Nat.{ℕ, _+_, _-_, _≤_, _<_, _*_};
 ghost use mathlib.Core.Path.{_≡_};
 ghost use mathlib.Core.Bool.{false};
 ghost use lib.Dec.{eqb};
 ghost use lib.ListN.{length, getD, take, set};
 ghost use Rattle.logic.specs.Tests.{countBelow};
-ghost use Rattle.table.specs.Format.{pairAt, theoryIn};
+ghost use Rattle.table.specs.Format.{pairAt, theoryIn, spanOf};
 ghost use Rattle.table.specs.Refusals.{outOfRange, oversize, disorder, cycle};
 ghost use Rattle.table.specs.Release.{Ordered, Runs, Zeros, Reached, Pushed};
 use crate::format::Sizes;
-use crate::format::read_pair;
+use crate::format::pair_within;
 
 // How many pairs name each rule as the weaker.
 fn count_stronger(table: &[u8], s: Sizes, degree: &mut [u16])
-    requires { ⌜ Ordered (theoryIn (now table) s) × (length (now degree) ≡ 1024) × ((w : ℕ) → w < 1024 → getD (now degree) w 0 ≡ 0) ⌝ }
+    requires { ⌜ Ordered (theoryIn (now table) s) × (length (now degree) ≡ 1024) × (length (now table) ≡ 10 + 4 * spanOf s) × ((w : ℕ) → w < 1024 → getD (now degree) w 0 ≡ 0) ⌝ }
     ensures { λ _. ⌜ ((w : ℕ) → w < 1024 → getD (now (degree .exit)) w 0 ≡ countBelow (s .pairs) (λ i. eqb (pairAt (now (table .entry)) s i .weaker) w)) ⌝ }
 {
     let n = s.pairs as usize;
     let mut i: usize = 0;
     while i < n {
-        let p = read_pair(table, s, i);
+        let p = pair_within(table, s, i);
         let w = p.weaker as usize;
         degree[w] += 1;
         i += 1;
@@ -29,13 +29,13 @@ fn count_stronger(table: &[u8], s: Sizes, degree: &mut [u16])
 
 // Where the pairs of each stronger rule begin.
 fn find_runs(table: &[u8], s: Sizes, first: &mut [u16])
-    requires { ⌜ Ordered (theoryIn (now table) s) × (length (now first) ≡ 1024) ⌝ }
+    requires { ⌜ Ordered (theoryIn (now table) s) × (length (now first) ≡ 1024) × (length (now table) ≡ 10 + 4 * spanOf s) ⌝ }
     ensures { λ _. ⌜ Runs (theoryIn (now (table .entry)) s) (now (first .exit)) ⌝ }
 {
     let mut i: u16 = s.pairs;
     while 0 < i {
         i -= 1;
-        let p = read_pair(table, s, i as usize);
+        let p = pair_within(table, s, i as usize);
         let r = p.stronger as usize;
         first[r] = i;
     }
@@ -96,7 +96,7 @@ fn release(
     end: usize,
 ) -> usize
     requires { ⌜ Ordered (theoryIn (now table) s) × Runs (theoryIn (now table) s) (now first) × Reached (theoryIn (now table) s) next end (now degree) (now queue) ⌝ }
-    requires { ⌜ (length (now first) ≡ 1024) × (length (now degree) ≡ 1024) × (length (now queue) ≡ 1024) × (next < end) × (end ≤ 1024) ⌝ }
+    requires { ⌜ (length (now first) ≡ 1024) × (length (now degree) ≡ 1024) × (length (now queue) ≡ 1024) × (next < end) × (end ≤ 1024) × (length (now table) ≡ 10 + 4 * spanOf s) ⌝ }
     ensures { λ r. ⌜ (next < r) × (r ≤ 1024) × Reached (theoryIn (now (table .entry)) s) (next + 1) r (now (degree .exit)) (now (queue .exit)) ⌝ }
 {
     let n = s.pairs as usize;
@@ -104,7 +104,7 @@ fn release(
     let mut last = end;
     let mut i = wide(first[wide(r)]);
     while i < n {
-        let p = read_pair(table, s, i);
+        let p = pair_within(table, s, i);
         if p.stronger != r {
             return last;
         }
@@ -124,7 +124,7 @@ fn released(
     start: usize,
 ) -> usize
     requires { ⌜ Ordered (theoryIn (now table) s) × Runs (theoryIn (now table) s) (now first) × Reached (theoryIn (now table) s) 0 start (now degree) (now queue) ⌝ }
-    requires { ⌜ (length (now first) ≡ 1024) × (length (now degree) ≡ 1024) × (length (now queue) ≡ 1024) × (start ≤ 1024) ⌝ }
+    requires { ⌜ (length (now first) ≡ 1024) × (length (now degree) ≡ 1024) × (length (now queue) ≡ 1024) × (start ≤ 1024) × (length (now table) ≡ 10 + 4 * spanOf s) ⌝ }
     ensures { λ r. ⌜ (r ≤ 1024) × Reached (theoryIn (now (table .entry)) s) r r (now (degree .exit)) (now (queue .exit)) ⌝ }
 {
     let mut end = start;
@@ -138,7 +138,7 @@ fn released(
 
 // 7: the pairs lead from some rule back to itself.
 pub fn has_cycle(table: &[u8], s: Sizes) -> bool
-    requires { ⌜ (oversize s ≡ false) × (outOfRange (now table) s ≡ false) × (disorder (now table) s ≡ false) ⌝ }
+    requires { ⌜ (oversize s ≡ false) × (outOfRange (now table) s ≡ false) × (disorder (now table) s ≡ false) × (length (now table) ≡ 10 + 4 * spanOf s) ⌝ }
     ensures { λ r. ⌜ r ≡ cycle (now (table .entry)) s ⌝ }
 {
     let mut degree = [0u16; 1024];

@@ -1,7 +1,8 @@
 // Document 01, The table: literals, rules, sizes, and what stands at each place. Every function is total: a reader gives what its
 // definition in specs/Format.antt says for every table, sizes and index.
-ghost use Prim.Native.Nat.{_+_, _*_, _≤_};
+ghost use Prim.Native.Nat.{_+_, _*_, _≤_, _<_};
 ghost use mathlib.Core.Path.{_≡_};
+ghost use lib.ListN.{length};
 ghost use Rattle.logic.specs.Theory.{complement, atom};
 ghost use Rattle.table.specs.Format.{word, sizesOf, spanOf, leftIn, rightIn, kindOf, factAt, ruleAt, entryAt, pairAt};
 
@@ -82,12 +83,20 @@ fn join(low: u8, high: u8) -> u16
     low as u16 + 256 * (high as u16)
 }
 
+// The 16-bit word at an index that is within the table.
+pub(crate) fn word_within(table: &[u8], i: usize) -> u16
+    requires { ⌜ 2 * i + 2 ≤ length (now table) ⌝ }
+    ensures { λ r. ⌜ r ≡ word (now (table .entry)) i ⌝ }
+{
+    join(table[2 * i], table[2 * i + 1])
+}
+
 // The 16-bit word at an index, 0 past the end.
 pub fn word(table: &[u8], i: usize) -> u16
     ensures { λ r. ⌜ r ≡ word (now (table .entry)) i ⌝ }
 {
     if i < table.len() / 2 {
-        join(table[2 * i], table[2 * i + 1])
+        word_within(table, i)
     } else {
         0
     }
@@ -175,5 +184,17 @@ pub fn read_pair(table: &[u8], s: Sizes, i: usize) -> Pair
     let from = s.facts as usize + s.rules as usize + s.entries as usize;
     let stronger = left_word(table, from, s.pairs, i);
     let weaker = right_word(table, s, from, s.pairs, i);
+    Pair { stronger, weaker }
+}
+
+// The i-th pair of a table as long as its sizes say, if there is one.
+pub(crate) fn pair_within(table: &[u8], s: Sizes, i: usize) -> Pair
+    requires { ⌜ (i < s .pairs) × (length (now table) ≡ 10 + 4 * spanOf s) ⌝ }
+    ensures { λ r. ⌜ r ≡ pairAt (now (table .entry)) s i ⌝ }
+{
+    let from = s.facts as usize + s.rules as usize + s.entries as usize;
+    let right = 5 + s.span();
+    let stronger = word_within(table, 5 + (from + i));
+    let weaker = word_within(table, right + (from + i));
     Pair { stronger, weaker }
 }

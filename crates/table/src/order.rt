@@ -1,11 +1,13 @@
 // Fault 6 of document 01: facts, entries or pairs that do not rise strictly.
-ghost use Prim.Native.Nat.{_≤_, _<_};
+ghost use Prim.Native.Nat.{_+_, _*_, _≤_, _<_};
 ghost use mathlib.Core.Path.{_≡_};
-ghost use Rattle.table.specs.Refusals.{sectionFrom, sectionSize, leftFrom, rises, disorder};
-use crate::flags::both;
-use crate::flags::either;
+ghost use mathlib.Core.Bool.{false};
+ghost use lib.ListN.{length};
+ghost use Rattle.table.specs.Format.{spanOf};
+ghost use Rattle.table.specs.Refusals.{badKind, sectionFrom, sectionSize, disorder};
+ghost use Rattle.table.specs.Keys.{Key};
 use crate::format::Sizes;
-use crate::format::word;
+use crate::format::word_within;
 
 // The ordered sections: 0 the facts, 1 the entries, 2 the pairs.
 fn section_from(s: Sizes, k: u8) -> usize
@@ -28,46 +30,48 @@ fn section_size(s: Sizes, k: u8) -> u16
     }
 }
 
-// The left word by which the i-th entry of a section is ordered: 0 for a fact.
-fn section_left(table: &[u8], k: u8, from: usize, i: usize) -> u16
-    requires { ⌜ (from ≤ 196605) × (i ≤ 65535) ⌝ }
-    ensures { λ r. ⌜ r ≡ leftFrom (now (table .entry)) k from i ⌝ }
+// The order of an entry, by its left word, then its right one. A fact's left word is 0.
+fn key(table: &[u8], left: usize, right: usize, i: usize) -> u32
+    requires { ⌜ (2 * (left + i) + 2 ≤ length (now table)) × (2 * (right + i) + 2 ≤ length (now table)) × (left ≤ 196610) × (right ≤ 458750) × (i ≤ 65535) ⌝ }
+    ensures { λ r. ⌜ Key (now (table .entry)) left right i r ⌝ }
 {
-    if k == 0 {
+    let low = word_within(table, right + i);
+    65536 * (word_within(table, left + i) as u32) + low as u32
+}
+
+// The key of a section's first entry, if it has one.
+fn first_key(table: &[u8], left: usize, right: usize, n: usize) -> u32
+    requires { ⌜ (2 * (left + n) ≤ length (now table)) × (2 * (right + n) ≤ length (now table)) × (left ≤ 196610) × (right ≤ 458750) ⌝ }
+    ensures { λ r. ⌜ (0 < n → Key (now (table .entry)) left right 0 r) ⌝ }
+{
+    if n == 0 {
         0
     } else {
-        word(table, 5 + (from + i))
+        key(table, left, right, 0)
     }
 }
 
-// Whether the entry after the i-th of a section comes after it.
-fn in_order(table: &[u8], s: Sizes, k: u8, i: usize) -> bool
-    requires { ⌜ i < 65535 ⌝ }
-    ensures { λ r. ⌜ r ≡ rises (now (table .entry)) s k i ⌝ }
-{
-    let from = section_from(s, k);
-    let right = 5 + s.span();
-    let left_1 = section_left(table, k, from, i);
-    let left_2 = section_left(table, k, from, i + 1);
-    let right_1 = word(table, right + (from + i));
-    let right_2 = word(table, right + (from + (i + 1)));
-    either(left_1 < left_2, both(left_1 == left_2, right_1 < right_2))
-}
-
-// 6: the first entry out of order ends the whole inspection.
+// 6: the first entry out of order ends the whole inspection. Kinds are ruled out before.
 pub fn unsorted(table: &[u8], s: Sizes) -> bool
+    requires { ⌜ (length (now table) ≡ 10 + 4 * spanOf s) × (badKind (now table) s ≡ false) ⌝ }
     ensures { λ r. ⌜ r ≡ disorder (now (table .entry)) s ⌝ }
 {
+    let span = s.span();
     let mut found = false;
     let mut k: u8 = 0;
     'inspection: while k < 3 {
         let n = section_size(s, k) as usize;
-        let mut i: usize = 0;
-        while i + 1 < n {
-            if !in_order(table, s, k, i) {
+        let left = 5 + section_from(s, k);
+        let right = left + span;
+        let mut last = first_key(table, left, right, n);
+        let mut i: usize = 1;
+        while i < n {
+            let next = key(table, left, right, i);
+            if next <= last {
                 found = true;
                 break 'inspection;
             }
+            last = next;
             i += 1;
         }
         k += 1;

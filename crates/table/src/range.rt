@@ -1,32 +1,35 @@
 // Faults 4 and 5 of document 01: words that are too large for their place.
 ghost use Prim.Native.Nat.{_+_, _*_, _≤_};
 ghost use mathlib.Core.Path.{_≡_};
+ghost use mathlib.Core.Bool.{false};
 ghost use lib.Dec.{leb};
+ghost use lib.ListN.{length};
 ghost use Rattle.logic.specs.Tests.{some};
-ghost use Rattle.table.specs.Format.{word};
-ghost use Rattle.table.specs.Refusals.{badKind, outOfRange};
+ghost use Rattle.table.specs.Format.{word, spanOf};
+ghost use Rattle.table.specs.Refusals.{oversize, badKind, outOfRange};
 use crate::flags::either;
 use crate::format::Sizes;
-use crate::format::word;
+use crate::format::word_within;
 
-// Whether one of n words is at least the limit.
-fn any_at_least(table: &[u8], base: usize, from: usize, n: u16, limit: usize) -> bool
-    requires { ⌜ (base ≤ 262145) × (from ≤ 262140) ⌝ }
+// Whether one of n words within the table is at least the limit. All are looked at: the loop has no other way out.
+fn any_at_least(table: &[u8], base: usize, from: usize, n: u16, limit: u16) -> bool
+    requires { ⌜ (base ≤ 262145) × (from ≤ 262140) × (2 * (base + (from + n)) ≤ length (now table)) ⌝ }
     ensures { λ r. ⌜ r ≡ some n (λ i. leb limit (word (now (table .entry)) (base + (from + i)))) ⌝ }
 {
     let end = n as usize;
+    let mut found = false;
     let mut i: usize = 0;
     while i < end {
-        if limit <= word(table, base + (from + i)) as usize {
-            return true;
-        }
+        let w = word_within(table, base + (from + i));
+        found = either(found, limit <= w);
         i += 1;
     }
-    false
+    found
 }
 
 // 4: a fact's left word that is not 0, or a rule's above 2.
 pub fn bad_kind(table: &[u8], s: Sizes) -> bool
+    requires { ⌜ length (now table) ≡ 10 + 4 * spanOf s ⌝ }
     ensures { λ r. ⌜ r ≡ badKind (now (table .entry)) s ⌝ }
 {
     let facts = any_at_least(table, 5, 0, s.facts, 1);
@@ -36,13 +39,14 @@ pub fn bad_kind(table: &[u8], s: Sizes) -> bool
 
 // 5: a literal not below 2A, or a rule number not below N.
 pub fn out_of_range(table: &[u8], s: Sizes) -> bool
+    requires { ⌜ (oversize s ≡ false) × (length (now table) ≡ 10 + 4 * spanOf s) ⌝ }
     ensures { λ r. ⌜ r ≡ outOfRange (now (table .entry)) s ⌝ }
 {
-    let literals = 2 * (s.atoms as usize);
-    let rules = s.rules as usize;
+    let literals = 2 * s.atoms;
+    let rules = s.rules;
     let right = 5 + s.span();
     let at_rules = s.facts as usize;
-    let at_entries = at_rules + rules;
+    let at_entries = at_rules + rules as usize;
     let at_pairs = at_entries + s.entries as usize;
     let facts = any_at_least(table, right, 0, s.facts, literals);
     let heads = any_at_least(table, right, at_rules, s.rules, literals);

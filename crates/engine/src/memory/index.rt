@@ -15,7 +15,8 @@ use crate::memory::listing::mark_facts;
 use crate::memory::listing::mark_firsts;
 use crate::memory::sorting::begin_uses;
 use crate::memory::sorting::place_uses;
-use crate::memory::visit::visit;
+use crate::memory::visit::visit_defeasible;
+use crate::memory::visit::visit_definite;
 use table::format::Sizes;
 
 // The first 32,768 words set to 0.
@@ -51,8 +52,9 @@ fn start(table: &[u8], s: Sizes, mem: &mut [u16])
 {
     let mut r: u16 = 0;
     while r < s.rules {
-        visit(table, s, mem, r, 0);
-        visit(table, s, mem, r, 2);
+        let i = r as usize;
+        visit_definite(table, s, mem, i, 0);
+        visit_defeasible(table, s, mem, i, 2);
         r += 1;
     }
 }

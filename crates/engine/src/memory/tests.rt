@@ -34,13 +34,13 @@ use crate::memory::words::load_use;
 use table::format::Literal;
 use table::format::Sizes;
 
-fn both(a: bool, b: bool) -> bool
+pub fn both(a: bool, b: bool) -> bool
     ensures { λ r. ⌜ r ≡ (a and b) ⌝ }
 {
     if a { b } else { false }
 }
 
-fn either(a: bool, b: bool) -> bool
+pub fn either(a: bool, b: bool) -> bool
     ensures { λ r. ⌜ r ≡ (a or b) ⌝ }
 {
     if a { true } else { b }

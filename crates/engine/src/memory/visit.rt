@@ -128,7 +128,7 @@ fn walk(table: &[u8], s: Sizes, mem: &mut [u16], r: usize, t: usize)
 }
 
 // A visit with tag +Δ or −Δ.
-fn visit_definite(table: &[u8], s: Sizes, mem: &mut [u16], r: usize, t: usize)
+pub fn visit_definite(table: &[u8], s: Sizes, mem: &mut [u16], r: usize, t: usize)
     requires { ⌜ Sound (theoryIn (now table) s) × Standing (theoryIn (now table) s) (now mem) × (r < s .rules) × (t < 2) × (view (now mem) (has t) r < view (now mem) sizeF r) ⌝ }
     requires { ⌜ (r < 1024) × (32768 ≤ length (now mem)) ⌝ }
     ensures { λ _. ⌜ Visited (theoryIn (now (table .entry)) s) t r (now (mem .entry)) (now (mem .exit)) ⌝ }
@@ -143,7 +143,7 @@ fn visit_definite(table: &[u8], s: Sizes, mem: &mut [u16], r: usize, t: usize)
 }
 
 // A visit with tag +∂ or −∂.
-fn visit_defeasible(table: &[u8], s: Sizes, mem: &mut [u16], r: usize, t: usize)
+pub fn visit_defeasible(table: &[u8], s: Sizes, mem: &mut [u16], r: usize, t: usize)
     requires { ⌜ Sound (theoryIn (now table) s) × Standing (theoryIn (now table) s) (now mem) × (r < s .rules) × (2 ≤ t) × (t < 4) × (view (now mem) (has t) r < view (now mem) sizeF r) ⌝ }
     requires { ⌜ (r < 1024) × (32768 ≤ length (now mem)) ⌝ }
     ensures { λ _. ⌜ Visited (theoryIn (now (table .entry)) s) t r (now (mem .entry)) (now (mem .exit)) ⌝ }
@@ -165,7 +165,7 @@ fn visit_defeasible(table: &[u8], s: Sizes, mem: &mut [u16], r: usize, t: usize)
 }
 
 // One antecedent more of rule r has tag t.
-pub fn visit(table: &[u8], s: Sizes, mem: &mut [u16], r: u16, t: u16)
+fn visit(table: &[u8], s: Sizes, mem: &mut [u16], r: u16, t: u16)
     requires { ⌜ (judgementOf (now table) ≡ Accepted s) × Standing (theoryIn (now table) s) (now mem) × (r < s .rules) × (t < 4) × (view (now mem) (has t) r < view (now mem) sizeF r) ⌝ }
     ensures { λ _. ⌜ Visited (theoryIn (now (table .entry)) s) t r (now (mem .entry)) (now (mem .exit)) ⌝ }
 {

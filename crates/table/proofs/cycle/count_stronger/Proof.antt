@@ -16,17 +16,17 @@ Inv-loop table s degree₀ n i₀ degree i = (i ≤ n) × (length degree ≡ 102
 abbrev μ-loop : tie.MeasureT-loop
 μ-loop table s degree₀ n i₀ degree i = n - i
 
-small : (c : tie.After-slice-known2 Inv-loop μ-loop) → c .before .before .read-pair .result .weaker < 1024
-small c = weak-small _ _ (c .before .before .before .before .before .before .before .before .pre .0) _ _ (c .before .before .before .loop-test .taken) (c .before .before .read-pair .ensures)
+small : (c : tie.After-slice-known2 Inv-loop μ-loop) → c .before .before .pair-within .result .weaker < 1024
+small c = weak-small _ _ (c .before .before .before .before .before .before .before .before .pre .0) _ _ (c .before .before .before .loop-test .taken) (c .before .before .pair-within .ensures)
 
 cast-n : tie.Need-cast-n Inv-loop μ-loop
 cast-n c = search needs
 
 loop-holds : tie.Need-loop-holds Inv-loop μ-loop
-loop-holds c = (omega arith, c .before .before .before .pre .1, tally-none _ _ (c .before .before .before .pre .2))
+loop-holds c = (omega arith, c .before .before .before .pre .1, tally-none _ _ (c .before .before .before .pre .3))
 
-read-pair-requires : tie.Need-read-pair-requires Inv-loop μ-loop
-read-pair-requires c κs = search needs
+pair-within-requires : tie.Need-pair-within-requires Inv-loop μ-loop
+pair-within-requires c κs = search needs
 
 cast-w : tie.Need-cast-w Inv-loop μ-loop
 cast-w c = search needs
@@ -39,7 +39,7 @@ slice-read-degree c = omega (arith, small c)
 
 add-degree : tie.Need-add-degree Inv-loop μ-loop
 unfolding theoryIn
-add-degree c = let h : lib.ListN.getD (c .before .before .before .before .loop .degree) (c .before .before .read-pair .result .weaker) 0 ≤ c .before .before .before .before .loop .i = tally-most _ _ _ _ (c .before .before .before .before .loop .inv .2) (small c) in omega (arith, c .before .before .before .before .before .before .before .before .pre .0 .few)
+add-degree c = let h : lib.ListN.getD (c .before .before .before .before .loop .degree) (c .before .before .pair-within .result .weaker) 0 ≤ c .before .before .before .before .loop .i = tally-most _ _ _ _ (c .before .before .before .before .loop .inv .2) (small c) in omega (arith, c .before .before .before .before .before .before .before .before .pre .0 .few)
 
 slice-write-degree : tie.Need-slice-write-degree Inv-loop μ-loop
 slice-write-degree c = omega (arith, small c)
@@ -52,7 +52,7 @@ loop-less c = search needs
 
 loop-again : tie.Need-loop-again Inv-loop μ-loop
 unfolding theoryIn
-loop-again c = (omega arith, simp length-set (c .before .before .before .before .loop .inv .1), tally-next _ _ _ _ (weak-read _ _ _ _ (c .before .before .read-pair .ensures)) (omega (arith, small c)) (c .before .before .before .before .loop .inv .2))
+loop-again c = (omega arith, simp length-set (c .before .before .before .before .loop .inv .1), tally-next _ _ _ _ (weak-read _ _ _ _ (c .before .before .pair-within .ensures)) (omega (arith, small c)) (c .before .before .before .before .loop .inv .2))
 
 same-length : tie.Need-same-length Inv-loop μ-loop
 same-length c = search needs
@@ -68,7 +68,7 @@ count-stronger-spec =
     μ-loop
     cast-n
     loop-holds
-    read-pair-requires
+    pair-within-requires
     cast-w
     mul-degree
     slice-read-degree

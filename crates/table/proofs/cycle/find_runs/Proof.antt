@@ -16,8 +16,8 @@ Inv-loop table s first₀ i₀ first i = (i ≤ s .pairs) × (length first ≡ 1
 abbrev μ-loop : tie.MeasureT-loop
 μ-loop table s first₀ i₀ first i = i
 
-small : (c : tie.After-struct-known Inv-loop μ-loop) → c .before .read-pair .result .stronger < 1024
-small c = strong-small _ _ (c .before .before .before .before .before .before .pre .0) (c .before .before .before .loop .i - 1) _ (omega arith) (c .before .read-pair .ensures)
+small : (c : tie.After-struct-known Inv-loop μ-loop) → c .before .pair-within .result .stronger < 1024
+small c = strong-small _ _ (c .before .before .before .before .before .before .pre .0) (c .before .before .before .loop .i - 1) _ (omega arith) (c .before .pair-within .ensures)
 
 loop-holds : tie.Need-loop-holds Inv-loop μ-loop
 unfolding theoryIn
@@ -26,11 +26,11 @@ loop-holds c = (omega arith, c .before .before .pre .1, runs-none (theoryIn (c .
 sub-i : tie.Need-sub-i Inv-loop μ-loop
 sub-i c = search needs
 
-cast-read-pair : tie.Need-cast-read-pair Inv-loop μ-loop
-cast-read-pair c = search needs
+cast-pair-within : tie.Need-cast-pair-within Inv-loop μ-loop
+cast-pair-within c = search needs
 
-read-pair-requires : tie.Need-read-pair-requires Inv-loop μ-loop
-read-pair-requires c κs = search needs
+pair-within-requires : tie.Need-pair-within-requires Inv-loop μ-loop
+pair-within-requires c κs = search needs
 
 cast-r : tie.Need-cast-r Inv-loop μ-loop
 cast-r c = search needs
@@ -45,7 +45,7 @@ loop-less : tie.Need-loop-less Inv-loop μ-loop
 loop-less c = search needs
 
 loop-again : tie.Need-loop-again Inv-loop μ-loop
-loop-again c = (omega arith, simp length-set (c .before .before .before .loop .inv .1), runs-next _ _ _ _ (c .before .before .loop-test .taken) (strong-read _ _ _ _ (c .before .read-pair .ensures)) (omega (arith, small c)) (c .before .before .before .loop .inv .2))
+loop-again c = (omega arith, simp length-set (c .before .before .before .loop .inv .1), runs-next _ _ _ _ (c .before .before .loop-test .taken) (strong-read _ _ _ _ (c .before .pair-within .ensures)) (omega (arith, small c)) (c .before .before .before .loop .inv .2))
 
 same-length : tie.Need-same-length Inv-loop μ-loop
 same-length c = search needs
@@ -61,8 +61,8 @@ find-runs-spec =
     μ-loop
     loop-holds
     sub-i
-    cast-read-pair
-    read-pair-requires
+    cast-pair-within
+    pair-within-requires
     cast-r
     mul-first
     slice-write-first

@@ -21,13 +21,13 @@ slice-aggregate-count-stronger : tie.Need-slice-aggregate-count-stronger
 slice-aggregate-count-stronger c = search needs
 
 count-stronger-requires : tie.Need-count-stronger-requires
-count-stronger-requires c κs = (in-order (c .before .before), refl, λ w h. getD-replicate 1024 w 0 0 h)
+count-stronger-requires c κs = (in-order (c .before .before), refl, c .before .before .pre .3, λ w h. getD-replicate 1024 w 0 0 h)
 
 slice-aggregate-find-runs : tie.Need-slice-aggregate-find-runs
 slice-aggregate-find-runs c = search needs
 
 find-runs-requires : tie.Need-find-runs-requires
-find-runs-requires c κs = (in-order (c .before .before .before .before .before), refl)
+find-runs-requires c κs = (in-order (c .before .before .before .before .before), refl, c .before .before .before .before .before .pre .3)
 
 slice-aggregate-start : tie.Need-slice-aggregate-start
 slice-aggregate-start c = search needs
@@ -48,7 +48,7 @@ slice-aggregate-released-3 : tie.Need-slice-aggregate-released-3
 slice-aggregate-released-3 c = search needs
 
 released-requires : tie.Need-released-requires
-released-requires c κs = ((in-order (c .before .before .before .before .before .before .before .before .before .before .before .before .before .before), c .before .before .before .before .before .before .before .before .find-runs .ensures, table-start _ _ (in-order (c .before .before .before .before .before .before .before .before .before .before .before .before .before .before)) _ (c .before .before .before .before .start .last .1 .1 .0) (c .before .before .before .before .start .result) (c .before .before .before .before .start .ensures .1) (c .before .before .before .before .before .before .before .before .before .before .before .count-stronger .ensures)), (c .before .before .before .before .before .before .before .before .find-runs .kept .1 .1 .0, c .before .before .before .before .before .before .before .before .before .before .before .count-stronger .kept .1 .1 .0, c .before .before .before .before .start .kept .1 .1 .0, omega (arith, small (c .before .before .before .before .before .before .before .before .before .before .before .before .before .before), c .before .before .before .before .start .ensures .0)))
+released-requires c κs = ((in-order (c .before .before .before .before .before .before .before .before .before .before .before .before .before .before), c .before .before .before .before .before .before .before .before .find-runs .ensures, table-start _ _ (in-order (c .before .before .before .before .before .before .before .before .before .before .before .before .before .before)) _ (c .before .before .before .before .start .last .1 .1 .0) (c .before .before .before .before .start .result) (c .before .before .before .before .start .ensures .1) (c .before .before .before .before .before .before .before .before .before .before .before .count-stronger .ensures)), (c .before .before .before .before .before .before .before .before .find-runs .kept .1 .1 .0, c .before .before .before .before .before .before .before .before .before .before .before .count-stronger .kept .1 .1 .0, c .before .before .before .before .start .kept .1 .1 .0, omega (arith, small (c .before .before .before .before .before .before .before .before .before .before .before .before .before .before), c .before .before .before .before .start .ensures .0), c .before .before .before .before .before .before .before .before .before .before .before .before .before .before .pre .3))
 
 cast-result : tie.Need-cast-result
 cast-result c = search needs

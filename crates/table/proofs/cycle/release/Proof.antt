@@ -28,7 +28,7 @@ unfolding theoryIn
 below c = c .before .before .before .loop-test .taken
 
 of-rule : (c : tie.Else1 Inv-loop μ-loop) → theoryIn (c .before .before .before .before .before .before .before .before .before .before .before .before .before .before .args .table .now) (c .before .before .before .before .before .before .before .before .before .before .before .before .before .before .args .s) .pair (c .before .before .before .before .loop .i) .stronger ≡ getD (c .before .before .before .before .before .before .before .before .before .before .before .before .before .before .args .queue .now) (c .before .before .before .before .before .before .before .before .before .before .before .before .before .before .args .next) 0
-of-rule c = sym (strong-read _ _ _ _ (c .before .before .read-pair .ensures)) ∙ c .if1 .left
+of-rule c = sym (strong-read _ _ _ _ (c .before .before .pair-within .ensures)) ∙ c .if1 .left
 
 room : (c : tie.Else1 Inv-loop μ-loop) → c .before .before .before .before .loop .last < 1024
 room c = omega (arith, telling-room _ _ _ (within (c .before .before .before .before)) (c .before .before .before .before .before .before .before .before .before .before .before .before .before .before .pre .0 .0) _ _ _ _ (c .before .before .before .before .loop .inv .1) (below c) (of-rule c), c .before .before .before .before .before .before .before .before .before .before .before .before .before .before .pre .0 .0 .small)
@@ -57,8 +57,8 @@ wide-requires-2 c κs = search needs
 loop-holds : tie.Need-loop-holds Inv-loop μ-loop
 loop-holds c = telling-start _ _ _ (omega (arith, c .before .before .before .before .before .before .before .before .before .pre .1)) _ _ _ _ _ (c .before .before .before .before .before .before .before .before .before .pre .0 .1) (c .before .before .before .before .before .before .before .before .before .pre .0 .2) (c .before .before .before .before .before .before .before .before .before .pre .1 .1) (c .before .before .before .before .before .before .before .before .before .pre .1 .2) (c .before .before .before .before .before .before .before .before .before .pre .1 .3) (c .before .before .before .before .before .before .before .before .before .pre .1 .4) (c .before .before .wide .ensures) (c .wide2 .ensures)
 
-read-pair-requires : tie.Need-read-pair-requires Inv-loop μ-loop
-read-pair-requires c κs = search needs
+pair-within-requires : tie.Need-pair-within-requires Inv-loop μ-loop
+pair-within-requires c κs = search needs
 
 same-length : tie.Need-same-length Inv-loop μ-loop
 same-length c = search needs
@@ -67,10 +67,10 @@ same-length-2 : tie.Need-same-length-2 Inv-loop μ-loop
 same-length-2 c = search needs
 
 returns : tie.Need-returns Inv-loop μ-loop
-returns c = (c .before .before .before .before .loop .inv .1 .ahead, c .before .before .before .before .loop .inv .1 .most, telling-end _ _ _ (within (c .before .before .before .before)) (c .before .before .before .before .before .before .before .before .before .before .before .before .before .before .pre .0 .0) _ _ _ _ (c .before .before .before .before .loop .inv .1) _ (c .before .before .before .before .before .before .before .before .before .before .before .before .before .before .pre .0 .1) (c .before .before .before .before .loop .inv .0) (λ _ e. c .if1 .taken (strong-read _ _ _ _ (c .before .before .read-pair .ensures) ∙ e)))
+returns c = (c .before .before .before .before .loop .inv .1 .ahead, c .before .before .before .before .loop .inv .1 .most, telling-end _ _ _ (within (c .before .before .before .before)) (c .before .before .before .before .before .before .before .before .before .before .before .before .before .before .pre .0 .0) _ _ _ _ (c .before .before .before .before .loop .inv .1) _ (c .before .before .before .before .before .before .before .before .before .before .before .before .before .before .pre .0 .1) (c .before .before .before .before .loop .inv .0) (λ _ e. c .if1 .taken (strong-read _ _ _ _ (c .before .before .pair-within .ensures) ∙ e)))
 
 tell-requires : tie.Need-tell-requires Inv-loop μ-loop
-tell-requires c κs = (omega (arith, weak-small _ _ (c .before .before .before .before .before .before .before .before .before .before .before .before .before .before .before .before .pre .0 .0) _ _ (c .before .before .before .before .before .loop-test .taken) (c .before .before .before .before .read-pair .ensures), c .before .before .before .before .before .before .loop .inv .1 .degrees), telling-waits _ _ _ (within (c .before .before .before .before .before .before)) (c .before .before .before .before .before .before .before .before .before .before .before .before .before .before .before .before .pre .0 .0) _ _ _ _ (c .before .before .before .before .before .before .loop .inv .1) (below (c .before .before)) (of-rule (c .before .before)) _ (weak-read _ _ _ _ (c .before .before .before .before .read-pair .ensures)), omega (arith, room (c .before .before), c .before .before .before .before .before .before .loop .inv .1 .places))
+tell-requires c κs = (omega (arith, weak-small _ _ (c .before .before .before .before .before .before .before .before .before .before .before .before .before .before .before .before .pre .0 .0) _ _ (c .before .before .before .before .before .loop-test .taken) (c .before .before .before .before .pair-within .ensures), c .before .before .before .before .before .before .loop .inv .1 .degrees), telling-waits _ _ _ (within (c .before .before .before .before .before .before)) (c .before .before .before .before .before .before .before .before .before .before .before .before .before .before .before .before .pre .0 .0) _ _ _ _ (c .before .before .before .before .before .before .loop .inv .1) (below (c .before .before)) (of-rule (c .before .before)) _ (weak-read _ _ _ _ (c .before .before .before .before .pair-within .ensures)), omega (arith, room (c .before .before), c .before .before .before .before .before .before .loop .inv .1 .places))
 
 add-i : tie.Need-add-i Inv-loop μ-loop
 add-i c = search needs
@@ -79,7 +79,7 @@ loop-less : tie.Need-loop-less Inv-loop μ-loop
 loop-less c = search needs
 
 loop-again : tie.Need-loop-again Inv-loop μ-loop
-loop-again c = (omega (arith, c .before .before .before .before .before .before .before .before .before .before .before .loop .inv .0), telling-next _ _ _ (within (c .before .before .before .before .before .before .before .before .before .before .before)) (c .before .before .before .before .before .before .before .before .before .before .before .before .before .before .before .before .before .before .before .before .before .pre .0 .0) _ _ _ _ (c .before .before .before .before .before .before .before .before .before .before .before .loop .inv .1) (below (c .before .before .before .before .before .before .before)) (of-rule (c .before .before .before .before .before .before .before)) _ _ _ _ (weak-read _ _ _ _ (c .before .before .before .before .before .before .before .before .before .read-pair .ensures)) (c .before .before .before .before .tell .ensures .0) (c .before .before .before .before .tell .ensures .1) (c .before .before .before .before .tell .kept .1 .1 .0))
+loop-again c = (omega (arith, c .before .before .before .before .before .before .before .before .before .before .before .loop .inv .0), telling-next _ _ _ (within (c .before .before .before .before .before .before .before .before .before .before .before)) (c .before .before .before .before .before .before .before .before .before .before .before .before .before .before .before .before .before .before .before .before .before .pre .0 .0) _ _ _ _ (c .before .before .before .before .before .before .before .before .before .before .before .loop .inv .1) (below (c .before .before .before .before .before .before .before)) (of-rule (c .before .before .before .before .before .before .before)) _ _ _ _ (weak-read _ _ _ _ (c .before .before .before .before .before .before .before .before .before .pair-within .ensures)) (c .before .before .before .before .tell .ensures .0) (c .before .before .before .before .tell .ensures .1) (c .before .before .before .before .tell .kept .1 .1 .0))
 
 same-length-3 : tie.Need-same-length-3 Inv-loop μ-loop
 same-length-3 c = search needs
@@ -105,7 +105,7 @@ release-spec =
     shared-slice-read-wide
     wide-requires-2
     loop-holds
-    read-pair-requires
+    pair-within-requires
     same-length
     same-length-2
     returns

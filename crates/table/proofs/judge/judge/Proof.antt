@@ -1,3 +1,5 @@
+use Prim.Native.Nat.{_+_, _*_}
+use mathlib.Core.Path.{_∙_, ap}
 use Rattle.table.proofs.Judging.{flag, wrong-length, right-length, judged-short, judged-by, judged-2, judged-3, judged-4, judged-5, judged-6, judged-7, judged-0}
 use borrow.Author.Needs.{needs}
 use Rattle.table.proofs.judge.judge.Statement.{statement}
@@ -54,7 +56,7 @@ returns-4 c = judged-by _ _ _ (c .before .before .before .before .before .before
 
 -- src/judge.rt:69:8
 out-of-range-requires : tie.Need-out-of-range-requires
-out-of-range-requires c κs = search needs
+out-of-range-requires c κs = (flag (c .before .before .before .before .before .too-large .ensures) (c .before .before .before .before .if2 .left), c .before .before .if3 .left ∙ ap (λ k. 10 + 4 * k) (c .before .before .before .span .ensures))
 
 -- src/judge.rt:70:9
 returns-5 : tie.Need-returns-5
@@ -62,7 +64,7 @@ returns-5 c = judged-by _ _ _ (c .before .before .before .before .before .before
 
 -- src/judge.rt:72:8
 unsorted-requires : tie.Need-unsorted-requires
-unsorted-requires c κs = search needs
+unsorted-requires c κs = (c .before .before .before .before .if3 .left ∙ ap (λ k. 10 + 4 * k) (c .before .before .before .before .before .span .ensures), flag (c .before .before .before .bad-kind .ensures) (c .before .before .if4 .left))
 
 -- src/judge.rt:73:9
 returns-6 : tie.Need-returns-6
@@ -70,7 +72,7 @@ returns-6 c = judged-by _ _ _ (c .before .before .before .before .before .before
 
 -- src/judge.rt:75:8
 has-cycle-requires : tie.Need-has-cycle-requires
-has-cycle-requires c κs = ((flag (c .before .before .before .before .before .before .before .before .before .too-large .ensures) (c .before .before .before .before .before .before .before .before .if2 .left)), (flag (c .before .before .before .out-of-range .ensures) (c .before .before .if5 .left)), (flag (c .before .unsorted .ensures) (c .if6 .left)))
+has-cycle-requires c κs = ((flag (c .before .before .before .before .before .before .before .before .before .too-large .ensures) (c .before .before .before .before .before .before .before .before .if2 .left)), (flag (c .before .before .before .out-of-range .ensures) (c .before .before .if5 .left)), (flag (c .before .unsorted .ensures) (c .if6 .left)), c .before .before .before .before .before .before .if3 .left ∙ ap (λ k. 10 + 4 * k) (c .before .before .before .before .before .before .before .span .ensures))
 
 -- src/judge.rt:76:9
 returns-7 : tie.Need-returns-7

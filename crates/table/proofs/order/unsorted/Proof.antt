@@ -1,29 +1,30 @@
 -- `table::order::unsorted` meets its contract. Assumes nothing.
-use borrow.Author.Tests.{not-true, not-false}
-use Prim.Native.Nat.{ℕ, _-_, _≤_, _<_}
+use Prim.Native.Nat.{ℕ, _+_, _-_, _≤_, _<_}
 use native.Mathlib.Omega.{arith}
-use mathlib.Core.Path.{_≡_, refl, sym, _∙_, ap, subst}
-use mathlib.Core.Bool.{Bool, true, false, not}
-use borrow.Author.Count.{below-more}
+use mathlib.Core.Path.{_≡_, refl, _∙_}
+use mathlib.Core.Bool.{false}
 use lib.Dec.{T}
-use Rattle.table.specs.Refusals.{sectionSize, rises, disorder}
-use Rattle.table.proofs.Sections.{InOrder, no-disorder, disorder-at, in-order-next}
-use Rattle.logic.proofs.Tests.{of-true, of-false}
+use Rattle.table.specs.Refusals.{rises}
+use Rattle.table.specs.Keys.{Key}
+use Rattle.table.proofs.Sections.{InOrder, no-disorder, in-order-next, section-inside, key-on, rises-next, falls-next}
 use borrow.Author.Needs.{needs}
 use Rattle.table.proofs.order.unsorted.Statement.{statement}
 use Rattle.table.proofs.order.unsorted.Tie as tie
 
 abbrev Inv-loop : tie.InvT-loop
-Inv-loop table s found₀ k n i₀ found i = (found ≡ false) × (i ≤ n) × ((j : ℕ) → j < i → T (rises table s k j))
+Inv-loop table s span found₀ k n left right last₀ i₀ found last i = (found ≡ false) × (1 ≤ i) × (0 < n → i ≤ n) × (0 < n → Key table left right (i - 1) last) × ((j : ℕ) → j + 1 < i → T (rises table s k j))
 
 abbrev μ-loop : tie.MeasureT-loop
-μ-loop table s found₀ k n i₀ found i = n - i
+μ-loop table s span found₀ k n left right last₀ i₀ found last i = n - i
 
 abbrev Inv-inspection : tie.InvT-inspection
-Inv-inspection table s found₀ k₀ found k = (found ≡ false) × (k ≤ 3) × InOrder table s k
+Inv-inspection table s span found₀ k₀ found k = (found ≡ false) × (k ≤ 3) × InOrder table s k
 
 abbrev μ-inspection : tie.MeasureT-inspection
-μ-inspection table s found₀ k₀ found k = 3 - k
+μ-inspection table s span found₀ k₀ found k = 3 - k
+
+span-requires : tie.Need-span-requires Inv-loop μ-loop Inv-inspection μ-inspection
+span-requires c κs = search needs
 
 inspection-holds : tie.Need-inspection-holds Inv-loop μ-loop Inv-inspection μ-inspection
 inspection-holds c = (refl, omega arith, λ j h. absurd (omega arith))
@@ -34,14 +35,23 @@ section-size-requires c κs = search needs
 cast-n : tie.Need-cast-n Inv-loop μ-loop Inv-inspection μ-inspection
 cast-n c = search needs
 
+section-from-requires : tie.Need-section-from-requires Inv-loop μ-loop Inv-inspection μ-inspection
+section-from-requires c κs = search needs
+
+add-left : tie.Need-add-left Inv-loop μ-loop Inv-inspection μ-inspection
+add-left c = search needs
+
+add-right : tie.Need-add-right Inv-loop μ-loop Inv-inspection μ-inspection
+add-right c = search needs
+
+first-key-requires : tie.Need-first-key-requires Inv-loop μ-loop Inv-inspection μ-inspection
+first-key-requires c κs = (omega (arith, section-inside (c .before .before .before .before .before .before .args .s) (c .before .before .before .inspection .k), (c .section-from .ensures .0), (c .before .section-size .ensures), (c .before .before .before .before .span .ensures), (c .before .before .before .before .before .before .pre .0)), omega (arith, section-inside (c .before .before .before .before .before .before .args .s) (c .before .before .before .inspection .k), (c .section-from .ensures .0), (c .before .section-size .ensures), (c .before .before .before .before .span .ensures), (c .before .before .before .before .before .before .pre .0)), omega (arith, (c .section-from .ensures .1)), omega (arith, (c .section-from .ensures .1), (c .before .before .before .before .span .ensures)))
+
 loop-holds : tie.Need-loop-holds Inv-loop μ-loop Inv-inspection μ-inspection
-loop-holds c = (c .before .before .inspection .inv .0, omega arith, λ j h. absurd (omega arith))
+loop-holds c = ((c .before .before .before .before .inspection .inv .0), omega arith, λ h. omega arith, (c .first-key .ensures), λ j h. absurd (omega arith))
 
-add-loop : tie.Need-add-loop Inv-loop μ-loop Inv-inspection μ-inspection
-add-loop c = search needs
-
-in-order-requires : tie.Need-in-order-requires Inv-loop μ-loop Inv-inspection μ-inspection
-in-order-requires c κs = search needs
+key-requires : tie.Need-key-requires Inv-loop μ-loop Inv-inspection μ-inspection
+key-requires c κs = (omega (arith, section-inside (c .before .before .before .before .before .before .before .before .before .args .s) (c .before .before .before .before .before .before .inspection .k), (c .before .before .before .section-from .ensures .0), (c .before .before .before .before .section-size .ensures), (c .before .before .before .before .before .before .before .span .ensures), (c .before .before .before .before .before .before .before .before .before .pre .0), (c .loop-test .taken)), omega (arith, section-inside (c .before .before .before .before .before .before .before .before .before .args .s) (c .before .before .before .before .before .before .inspection .k), (c .before .before .before .section-from .ensures .0), (c .before .before .before .before .section-size .ensures), (c .before .before .before .before .before .before .before .span .ensures), (c .before .before .before .before .before .before .before .before .before .pre .0), (c .loop-test .taken)), omega (arith, (c .before .before .before .section-from .ensures .1)), omega (arith, (c .before .before .before .section-from .ensures .1), (c .before .before .before .before .before .before .before .span .ensures)), omega (arith, (c .loop-test .taken)))
 
 add-i : tie.Need-add-i Inv-loop μ-loop Inv-inspection μ-inspection
 add-i c = search needs
@@ -50,7 +60,7 @@ loop-less : tie.Need-loop-less Inv-loop μ-loop Inv-inspection μ-inspection
 loop-less c = search needs
 
 loop-again : tie.Need-loop-again Inv-loop μ-loop Inv-inspection μ-inspection
-loop-again c = (c .before .before .before .loop .inv .0, omega arith, below-more _ _ (c .before .before .before .loop .inv .2) (subst T (c .before .in-order .ensures) (of-true (c .before .in-order .result) (not-false _ (c .if1 .left)))))
+loop-again c = ((c .before .before .before .loop .inv .0), omega arith, λ h. omega arith, λ h. key-on (c .before .before .before .before .before .before .before .before .before .before .before .args .table .now) (c .before .before .before .before .before .before .before .before .before .before .before .args .s) (c .before .before .before .before .before .before .before .before .before .before .before .pre .1) (c .before .before .before .before .before .before .before .before .inspection .k) (c .before .before .before .before .before .section-from .result) (c .before .before .before .before .before .before .before .before .before .span .result) (c .before .before .before .before .before .section-from .ensures .0) (c .before .before .before .before .before .before .before .before .before .span .ensures) (c .before .before .before .loop .i) (c .before .key .ensures), rises-next (c .before .before .before .before .before .before .before .before .before .before .before .args .table .now) (c .before .before .before .before .before .before .before .before .before .before .before .args .s) (c .before .before .before .before .before .before .before .before .before .before .before .pre .1) (c .before .before .before .before .before .before .before .before .inspection .k) (c .before .before .before .before .before .section-from .result) (c .before .before .before .before .before .before .before .before .before .span .result) (c .before .before .before .before .before .section-from .ensures .0) (c .before .before .before .before .before .before .before .before .before .span .ensures) (c .before .before .before .loop .i) (c .before .before .before .loop .inv .1) (omega (arith, (c .before .before .loop-test .taken), (c .before .before .before .before .before .before .section-size .ensures))) ((c .before .before .before .loop .inv .3) (omega (arith, (c .before .before .loop-test .taken)))) (c .before .key .ensures) (c .if1 .left) (c .before .before .before .loop .inv .4))
 
 add-k : tie.Need-add-k Inv-loop μ-loop Inv-inspection μ-inspection
 add-k c = search needs
@@ -59,13 +69,13 @@ inspection-less : tie.Need-inspection-less Inv-loop μ-loop Inv-inspection μ-in
 inspection-less c = search needs
 
 inspection-again : tie.Need-inspection-again Inv-loop μ-loop Inv-inspection μ-inspection
-inspection-again c = (c .before .loop .inv .0, omega arith, in-order-next _ _ _ (c .before .before .before .before .inspection .inv .2) (λ j h. c .before .loop .inv .2 j (omega arith)))
+inspection-again c = ((c .before .loop .inv .0), omega arith, in-order-next _ _ _ (c .before .before .before .before .before .before .inspection .inv .2) (λ j h. (c .before .loop .inv .4) j (omega (arith, (c .before .before .before .before .section-size .ensures)))))
 
 returns : tie.Need-returns Inv-loop μ-loop Inv-inspection μ-inspection
-returns c = c .before .inspection .inv .0 ∙ no-disorder _ _ _ (c .inspection-test .left) (c .before .inspection .inv .2)
+returns c = (c .before .inspection .inv .0) ∙ no-disorder _ _ _ (c .inspection-test .left) (c .before .inspection .inv .2)
 
 returns-2 : tie.Need-returns-2 Inv-loop μ-loop Inv-inspection μ-inspection
-returns-2 c = disorder-at _ _ (c .before .before .before .before .before .before .inspection .k) (c .before .before .before .loop .i) (c .before .before .before .before .before .inspection-test .taken) (omega arith) (λ t. of-false (c .before .in-order .result) (not-true _ (c .if1 .taken)) (subst T (sym (c .before .in-order .ensures)) t))
+returns-2 c = falls-next (c .before .before .before .before .before .before .before .before .before .before .before .args .table .now) (c .before .before .before .before .before .before .before .before .before .before .before .args .s) (c .before .before .before .before .before .before .before .before .before .before .before .pre .1) (c .before .before .before .before .before .before .before .before .inspection .k) (c .before .before .before .before .before .section-from .result) (c .before .before .before .before .before .before .before .before .before .span .result) (c .before .before .before .before .before .section-from .ensures .0) (c .before .before .before .before .before .before .before .before .before .span .ensures) (c .before .before .before .loop .i) (c .before .before .before .loop .inv .1) (omega (arith, (c .before .before .loop-test .taken), (c .before .before .before .before .before .before .section-size .ensures))) ((c .before .before .before .loop .inv .3) (omega (arith, (c .before .before .loop-test .taken)))) (c .before .key .ensures) (c .before .before .before .before .before .before .before .inspection-test .taken) (c .if1 .taken)
 
 pub unsorted-spec : {M : Type 1} → statement M
 unsorted-spec =
@@ -75,12 +85,16 @@ unsorted-spec =
     μ-loop
     Inv-inspection
     μ-inspection
+    span-requires
     inspection-holds
     section-size-requires
     cast-n
+    section-from-requires
+    add-left
+    add-right
+    first-key-requires
     loop-holds
-    add-loop
-    in-order-requires
+    key-requires
     add-i
     loop-less
     loop-again

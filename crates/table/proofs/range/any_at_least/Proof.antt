@@ -1,39 +1,35 @@
--- `table::range::any_at_least` meets its contract. Assumes nothing.
+-- `table::range::any_at_least` meets its contract. The loop's invariant: what the words passed say. Assumes nothing.
+use Prim.Native.Nat.{_+_, _-_, _≤_}
 use native.Mathlib.Omega.{arith}
-use Rattle.table.proofs.Reading.{at-least, not-at-least}
-use Prim.Native.Nat.{ℕ, _+_, _-_, _≤_, _<_}
-use mathlib.Core.Path.{_≡_, subst}
-use borrow.Author.Count.{below-more}
-use lib.Dec.{T, leb, leb→le, le→leb}
-use Rattle.logic.proofs.Tests.{some-found, some-none}
+use mathlib.Core.Path.{_≡_, refl, ap}
+use lib.Dec.{leb}
+use Rattle.logic.specs.Tests.{some}
 use Rattle.table.specs.Format.{word}
+use Rattle.table.proofs.Reading.{scan-none, scan-next, scan-end}
 use borrow.Author.Needs.{needs}
 use Rattle.table.proofs.range.any_at_least.Statement.{statement}
 use Rattle.table.proofs.range.any_at_least.Tie as tie
 
 abbrev Inv-loop : tie.InvT-loop
-Inv-loop table base from n limit end i₀ i = (i ≤ end) × (end ≡ n) × ((k : ℕ) → k < i → T (leb limit (word table (base + (from + k)))) → ⊥)
+Inv-loop table base from n limit end found₀ i₀ found i = (i ≤ end) × (end ≡ n) × (found ≡ some i (λ k. leb limit (word table (base + (from + k)))))
 
 abbrev μ-loop : tie.MeasureT-loop
-μ-loop table base from n limit end i₀ i = end - i
+μ-loop table base from n limit end found₀ i₀ found i = end - i
 
 loop-holds : tie.Need-loop-holds Inv-loop μ-loop
-loop-holds c = search needs
+loop-holds c = (omega arith, refl, scan-none (λ k. leb (c .before .args .limit) (word (c .before .args .table .now) ((c .before .args .base) + ((c .before .args .from) + k)))))
 
-add-word : tie.Need-add-word Inv-loop μ-loop
-add-word c = search needs
+add-word-within : tie.Need-add-word-within Inv-loop μ-loop
+add-word-within c = search needs
 
-add-word-2 : tie.Need-add-word-2 Inv-loop μ-loop
-add-word-2 c = search needs
+add-word-within-2 : tie.Need-add-word-within-2 Inv-loop μ-loop
+add-word-within-2 c = search needs
 
-word-requires : tie.Need-word-requires Inv-loop μ-loop
-word-requires c κs = search needs
+word-within-requires : tie.Need-word-within-requires Inv-loop μ-loop
+word-within-requires c κs = omega arith
 
-cast-if1 : tie.Need-cast-if1 Inv-loop μ-loop
-cast-if1 c = search needs
-
-returns : tie.Need-returns Inv-loop μ-loop
-returns c = some-found _ _ (c .before .before .before .loop .i) (omega arith) (at-least (c .before .word .ensures) (c .if1 .taken))
+either-requires : tie.Need-either-requires Inv-loop μ-loop
+either-requires c κs = search needs
 
 add-i : tie.Need-add-i Inv-loop μ-loop
 add-i c = search needs
@@ -42,10 +38,10 @@ loop-less : tie.Need-loop-less Inv-loop μ-loop
 loop-less c = search needs
 
 loop-again : tie.Need-loop-again Inv-loop μ-loop
-loop-again c = (omega arith, c .before .before .before .loop .inv .1, below-more _ _ (c .before .before .before .loop .inv .2) (not-at-least (c .before .word .ensures) (c .if1 .left)))
+loop-again c = (omega arith, (c .before .before .before .loop .inv .1), scan-next (c .before .before .before .loop .i) (λ k. leb (c .before .before .before .before .before .args .limit) (word (c .before .before .before .before .before .args .table .now) ((c .before .before .before .before .before .args .base) + ((c .before .before .before .before .before .args .from) + k)))) (c .before .before .before .loop .inv .2) (ap (leb (c .before .before .before .before .before .args .limit)) (c .before .word-within .ensures)) (c .either .ensures))
 
-returns-2 : tie.Need-returns-2 Inv-loop μ-loop
-returns-2 c = some-none _ _ (λ k h. c .before .loop .inv .2 k (omega arith))
+returns : tie.Need-returns Inv-loop μ-loop
+returns c = scan-end (c .before .loop .i) (c .before .before .before .args .n) (λ k. leb (c .before .before .before .args .limit) (word (c .before .before .before .args .table .now) ((c .before .before .before .args .base) + ((c .before .before .before .args .from) + k)))) (omega arith) (omega arith) (c .before .loop .inv .2)
 
 pub any-at-least-spec : {M : Type 1} → statement M
 any-at-least-spec =
@@ -54,12 +50,11 @@ any-at-least-spec =
     Inv-loop
     μ-loop
     loop-holds
-    add-word
-    add-word-2
-    word-requires
-    cast-if1
-    returns
+    add-word-within
+    add-word-within-2
+    word-within-requires
+    either-requires
     add-i
     loop-less
     loop-again
-    returns-2)
+    returns)

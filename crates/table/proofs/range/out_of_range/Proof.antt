@@ -2,18 +2,14 @@
 use Rattle.table.specs.Refusals.{outOfRange}
 use Rattle.table.proofs.Joined.{ored}
 use Rattle.table.proofs.Reading.{right-scan}
+use native.Mathlib.Omega.{arith}
+use Rattle.table.proofs.Legal.{limited}
 use borrow.Author.Needs.{needs}
 use Rattle.table.proofs.range.out_of_range.Statement.{statement}
 use Rattle.table.proofs.range.out_of_range.Tie as tie
 
-cast-literals : tie.Need-cast-literals
-cast-literals c = search needs
-
 mul-literals : tie.Need-mul-literals
-mul-literals c = search needs
-
-cast-rules : tie.Need-cast-rules
-cast-rules c = search needs
+mul-literals c = record { fits = omega (arith, limited _ (c .before .before .pre .0) .atoms) }
 
 span-requires : tie.Need-span-requires
 span-requires c κs = search needs
@@ -23,6 +19,9 @@ add-right c = search needs
 
 cast-at-rules : tie.Need-cast-at-rules
 cast-at-rules c = search needs
+
+cast-at-entries : tie.Need-cast-at-entries
+cast-at-entries c = search needs
 
 add-at-entries : tie.Need-add-at-entries
 add-at-entries c = search needs
@@ -79,12 +78,11 @@ pub out-of-range-spec : {M : Type 1} → statement M
 out-of-range-spec =
     tie.close
     (tie.spec
-    cast-literals
     mul-literals
-    cast-rules
     span-requires
     add-right
     cast-at-rules
+    cast-at-entries
     add-at-entries
     cast-at-pairs
     add-at-pairs

@@ -1,8 +1,10 @@
 -- `engine::memory::index::start` meets its contract. The loop's invariant: the rules passed have their one antecedent more. Assumes nothing.
 use Prim.Native.Nat.{_≤_, _-_}
 use native.Mathlib.Omega.{arith}
+use mathlib.Core.Path.{refl}
 use Rattle.table.specs.Format.{theoryIn}
 use Rattle.engine.specs.Indexing.{Started}
+use Rattle.engine.proofs.Accepted.{definite-asks, defeasible-asks}
 use Rattle.engine.proofs.Starting.{visit-room, visit-again, started-next, started-all}
 use borrow.Author.Needs.{needs}
 use Rattle.engine.proofs.memory.index.start.Statement.{statement}
@@ -15,13 +17,16 @@ abbrev μ-loop : tie.MeasureT-loop
 μ-loop table s mem₀ r₀ mem r = s .rules - r
 
 loop-holds : tie.Need-loop-holds Inv-loop μ-loop
-loop-holds c = (omega arith, c .before .before .pre .1)
+loop-holds c = (omega arith, (c .before .before .pre .1))
 
-visit-requires : tie.Need-visit-requires Inv-loop μ-loop
-visit-requires c κs = (c .before .before .before .before .before .before .pre .0, c .before .before .before .loop .inv .1 .standing, c .before .if1 .taken, omega arith, visit-room _ _ 0 _ (c .before .before .before .loop .inv .1) (c .before .if1 .taken) (omega arith))
+cast-i : tie.Need-cast-i Inv-loop μ-loop
+cast-i c = search needs
 
-visit-requires-2 : tie.Need-visit-requires-2 Inv-loop μ-loop
-visit-requires-2 c κs = (c .before .before .before .before .before .before .before .before .before .before .pre .0, c .before .before .before .visit .ensures .standing, c .before .before .before .before .before .if1 .taken, omega arith, visit-again _ _ _ (c .before .before .before .before .before .before .before .loop .inv .1) (c .before .before .before .visit .ensures) (c .before .before .before .before .before .if1 .taken))
+visit-definite-requires : tie.Need-visit-definite-requires Inv-loop μ-loop
+visit-definite-requires c κs = definite-asks _ _ _ refl refl ((c .before .before .before .before .before .before .pre .0), (c .before .before .before .loop .inv .1 .standing), (c .before .if1 .taken), omega arith, visit-room _ _ 0 _ (c .before .before .before .loop .inv .1) (c .before .if1 .taken) (omega arith)) (omega arith)
+
+visit-defeasible-requires : tie.Need-visit-defeasible-requires Inv-loop μ-loop
+visit-defeasible-requires c κs = defeasible-asks _ _ _ refl refl ((c .before .before .before .before .before .before .before .before .before .before .pre .0), (c .before .before .before .visit-definite .ensures .standing), (c .before .before .before .before .before .if1 .taken), omega arith, visit-again _ _ _ (c .before .before .before .before .before .before .before .loop .inv .1) (c .before .before .before .visit-definite .ensures) (c .before .before .before .before .before .if1 .taken)) (omega arith)
 
 add-r : tie.Need-add-r Inv-loop μ-loop
 add-r c = search needs
@@ -30,10 +35,10 @@ loop-less : tie.Need-loop-less Inv-loop μ-loop
 loop-less c = search needs
 
 loop-again : tie.Need-loop-again Inv-loop μ-loop
-loop-again c = (omega arith, started-next _ _ _ (c .before .before .before .before .before .before .before .before .before .before .loop .inv .1) (c .before .before .before .before .before .before .visit .ensures) (c .before .before .visit2 .ensures))
+loop-again c = (omega arith, started-next _ _ _ (c .before .before .before .before .before .before .before .before .before .before .loop .inv .1) (c .before .before .before .before .before .before .visit-definite .ensures) (c .before .before .visit-defeasible .ensures))
 
 same-length : tie.Need-same-length Inv-loop μ-loop
-same-length c = c .before .before .loop .inv .1 .kept .size
+same-length c = (c .before .before .loop .inv .1 .kept .size)
 
 returns : tie.Need-returns Inv-loop μ-loop
 returns c = started-all _ _ _ _ (c .before .before .loop .inv .0) (c .if1 .left) (c .before .before .loop .inv .1)
@@ -45,8 +50,9 @@ start-spec =
     Inv-loop
     μ-loop
     loop-holds
-    visit-requires
-    visit-requires-2
+    cast-i
+    visit-definite-requires
+    visit-defeasible-requires
     add-r
     loop-less
     loop-again

@@ -1,0 +1,448 @@
+//! A slow engine, written from document 01 alone, sentence by sentence. The quoted lines are the document's own. What is held is a
+//! `Vec<bool>` indexed by the number of a line, and every inference rule is a direct quantification over rules and antecedents.
+
+use std::sync::atomic::{AtomicU32, Ordering::Relaxed};
+
+/// The deliberate fault that is switched on (`--mutant K`, the test's own test); 0 for none. See `compare.rs` for the list.
+pub static MUTANT: AtomicU32 = AtomicU32::new(0);
+
+pub fn mutant(k: u32) -> bool {
+    MUTANT.load(Relaxed) == k
+}
+
+/// The answer in the five numbers of flyrules.h. A refusal has its number alone: the other four are 0.
+#[repr(C)]
+#[derive(Clone, Copy, PartialEq, Eq, Debug, Default)]
+pub struct Answer {
+    pub refused: u32,
+    pub finished: u32,
+    pub lines: u32,
+    pub worked: u32,
+    pub spent: u32,
+}
+
+pub const SCRATCH: usize = 32_768;
+
+// "Tags: 0 +Δ (definitely proved), 1 −Δ (definitely refuted), 2 +∂ (defeasibly proved), 3 −∂ (defeasibly refuted)."
+const PLUS_DELTA: usize = 0;
+const MINUS_DELTA: usize = 1;
+const PLUS_PARTIAL: usize = 2;
+const MINUS_PARTIAL: usize = 3;
+
+/// "A line about literal q is the number 4q + tag."
+fn line(q: usize, tag: usize) -> usize {
+    4 * q + tag
+}
+
+/// "The complement of a literal flips its lowest bit."
+fn complement(q: usize) -> usize {
+    q ^ 1
+}
+
+/// The i-th "16-bit little-endian" word of the file.
+fn word(bytes: &[u8], i: usize) -> usize {
+    bytes[2 * i] as usize + 256 * bytes[2 * i + 1] as usize
+}
+
+/// The four sections as (left, right), in file order.
+struct Sections {
+    a: usize,
+    facts: Vec<(usize, usize)>,
+    rules: Vec<(usize, usize)>,
+    entries: Vec<(usize, usize)>,
+    pairs: Vec<(usize, usize)>,
+}
+
+/// "Sizes come first: five 16-bit little-endian words A, F, N, B, P .. Let T = F+N+B+P. Then come two parallel arrays, left and
+/// right, each of T such words." Refusals 1 to 3 are met here, since nothing can be read of such a file.
+fn sections(bytes: &[u8]) -> Result<Sections, u32> {
+    // "1 stub: fewer than 10 bytes"
+    if bytes.len() < 10 {
+        return Err(1);
+    }
+    let [a, f, n, b, p] = [0, 1, 2, 3, 4].map(|i| word(bytes, i));
+    // "2 oversize: one of the five sizes above its limit"; "At most A 512, F 1,024, N 1,024, B 4,096, P 2,048."
+    if a > 512 || f > 1_024 || n > 1_024 || b > 4_096 || p > 2_048 {
+        return Err(2);
+    }
+    // "3 length: byte count not 10 + 4·T"
+    let t = f + n + b + p;
+    if bytes.len() != 10 + 4 * t {
+        return Err(3);
+    }
+    // "Entries, in this order": facts, rules, entries, pairs
+    let part = |from: usize, count: usize| -> Vec<(usize, usize)> {
+        (from..from + count).map(|i| (word(bytes, 5 + i), word(bytes, 5 + t + i))).collect()
+    };
+    Ok(Sections { a, facts: part(0, f), rules: part(f, n), entries: part(f + n, b), pairs: part(f + n + b, p) })
+}
+
+/// "What the console turns away", 1 to 7; 0 for a table that is not. "The lowest number that applies anywhere in the table is given."
+pub fn judge(bytes: &[u8]) -> u32 {
+    let s = match sections(bytes) {
+        Ok(s) => s,
+        Err(number) => return number,
+    };
+    let n = s.rules.len();
+    let strange = |q: usize| q >= 2 * s.a;
+    if mutant(12) && s.facts.iter().any(|&(_, q)| strange(q)) {
+        return 5;
+    }
+    // "4 kind: a fact's left not 0, or a rule's left above 2"
+    if s.facts.iter().any(|&(left, _)| left != 0) || s.rules.iter().any(|&(kind, _)| kind > 2) {
+        return 4;
+    }
+    // "5 stranger: a literal not below 2A, or a rule number not below N"
+    if s.facts.iter().any(|&(_, q)| strange(q))
+        || s.rules.iter().any(|&(_, head)| strange(head))
+        || s.entries.iter().any(|&(r, q)| r >= n || strange(q))
+        || s.pairs.iter().any(|&(t, w)| t >= n || w >= n)
+    {
+        return 5;
+    }
+    // "6 disorder: facts, entries or pairs not strictly rising"; "Right rises strictly" (facts, whose left is 0 by now); "They rise
+    // strictly by left, then right" (entries, pairs)
+    let rises = |section: &[(usize, usize)]| section.windows(2).all(|w| w[0] < w[1] || mutant(20) && w[0] == w[1]);
+    if !rises(&s.facts) || !rises(&s.entries) || !rises(&s.pairs) {
+        return 6;
+    }
+    // "7 circle: the pairs, followed stronger to weaker, lead from some rule back to itself"
+    if (0..n).any(|r| leads_back(&s.pairs, n, r)) {
+        return 7;
+    }
+    0
+}
+
+/// Do one or more pairs lead from r to r? Rules are reached one after another, each from one that was reached before.
+fn leads_back(pairs: &[(usize, usize)], n: usize, r: usize) -> bool {
+    let mut reached = vec![false; n];
+    let mut ahead = vec![r];
+    while let Some(t) = ahead.pop() {
+        // the pairs rise by left here, so those of t stand together
+        let first = pairs.partition_point(|&(left, _)| left < t);
+        for &(_, weaker) in pairs[first..].iter().take_while(|&&(left, _)| left == t) {
+            if weaker == r && !(mutant(13) && t == r) {
+                return true;
+            }
+            if !reached[weaker] {
+                reached[weaker] = true;
+                ahead.push(weaker);
+            }
+        }
+    }
+    false
+}
+
+/// "A rule has a kind (0 strict, 1 defeasible, 2 defeater), one head, and a set of antecedents, all literals."
+struct Rule {
+    kind: usize,
+    head: usize,
+    body: Vec<usize>,
+}
+
+/// A table that was accepted.
+struct Theory {
+    a: usize,
+    size: usize,
+    bound: usize,
+    fact: Vec<bool>,
+    rules: Vec<Rule>,
+    pairs: Vec<(usize, usize)>,
+    /// the pairs again, as a square: `over[t * N + s]`
+    over: Vec<bool>,
+    /// the numbers of the rules with each head, for speed only
+    with_head: Vec<Vec<usize>>,
+}
+
+fn theory(bytes: &[u8]) -> Theory {
+    let s = sections(bytes).ok().unwrap();
+    let (a, f, n, b, p) = (s.a, s.facts.len(), s.rules.len(), s.entries.len(), s.pairs.len());
+    let mut fact = vec![false; 2 * a];
+    for &(_, q) in &s.facts {
+        fact[q] = true;
+    }
+    let mut rules: Vec<Rule> = s.rules.iter().map(|&(kind, head)| Rule { kind, head, body: vec![] }).collect();
+    for &(r, q) in &s.entries {
+        rules[r].body.push(q);
+    }
+    // "A pair 't over s' says that rule t is stronger than rule s." "Pairs count as listed; no closure is taken."
+    let mut over = vec![false; n * n];
+    for &(t, w) in &s.pairs {
+        over[t * n + w] = true;
+    }
+    if mutant(4) {
+        for k in 0..n {
+            for t in 0..n {
+                for w in 0..n {
+                    over[t * n + w] |= over[t * n + k] && over[k * n + w];
+                }
+            }
+        }
+    }
+    let mut with_head = vec![vec![]; 2 * a];
+    for r in 0..n {
+        with_head[rules[r].head].push(r);
+    }
+    // "Size is A+F+N+B+P."; the bound "5A+F+N+3B+3P"
+    let (size, bound) = (a + f + n + b + p, 5 * a + f + n + 3 * b + 3 * p);
+    Theory { a, size, bound, fact, rules, pairs: s.pairs, over, with_head }
+}
+
+impl Theory {
+    fn rules_for(&self, q: usize) -> impl Iterator<Item = usize> + '_ {
+        self.with_head[q].iter().copied()
+    }
+
+    fn strict_rules(&self, q: usize) -> impl Iterator<Item = usize> + '_ {
+        self.rules_for(q).filter(|&r| self.rules[r].kind == 0)
+    }
+
+    /// "A supporter of q is a strict or defeasible rule with head q."
+    fn supporters(&self, q: usize) -> impl Iterator<Item = usize> + '_ {
+        self.rules_for(q).filter(|&r| self.rules[r].kind != 2 || mutant(1))
+    }
+
+    /// "An attacker of q is any rule, defeaters included, whose head is the complement of q."
+    fn attackers(&self, q: usize) -> impl Iterator<Item = usize> + '_ {
+        self.rules_for(complement(q)).filter(|&r| self.rules[r].kind != 2 || !mutant(6))
+    }
+
+    fn stronger(&self, t: usize, s: usize) -> bool {
+        self.over[t * self.rules.len() + s]
+    }
+
+    /// all antecedents of r have the tag
+    fn all(&self, held: &[bool], r: usize, tag: usize) -> bool {
+        self.rules[r].body.iter().all(|&x| held[line(x, tag)])
+    }
+
+    /// some antecedent of r has the tag
+    fn some(&self, held: &[bool], r: usize, tag: usize) -> bool {
+        self.rules[r].body.iter().any(|&x| held[line(x, tag)])
+    }
+
+    /// "When a conclusion follows .. From lines already held"
+    fn follows(&self, held: &[bool], q: usize, tag: usize) -> bool {
+        let not_q = complement(q);
+        match tag {
+            // "+Δq: q is a fact, or some strict rule for q has +Δ held for all antecedents."
+            PLUS_DELTA => self.fact[q] || self.strict_rules(q).any(|r| self.all(held, r, PLUS_DELTA)),
+            // "−Δq: q is no fact, and each strict rule for q has an antecedent with −Δ held."
+            MINUS_DELTA => !self.fact[q] && self.strict_rules(q).all(|r| self.some(held, r, MINUS_DELTA)),
+            // "+∂q: +Δq is held; or all of: some supporter has +∂ held for every antecedent; −Δ of the complement is held; each
+            // attacker either has an antecedent with −∂ held, or is weaker by a listed pair than a supporter of q whose antecedents
+            // all have +∂ held."
+            PLUS_PARTIAL => {
+                let fires = |t: usize| self.all(held, t, PLUS_PARTIAL);
+                let out = |s: usize| self.some(held, s, MINUS_PARTIAL);
+                if mutant(5) {
+                    // one supporter is asked to beat all attackers
+                    let alone = |t: usize| self.attackers(q).all(|s| out(s) || self.stronger(t, s));
+                    return held[line(q, PLUS_DELTA)]
+                        || held[line(not_q, MINUS_DELTA)] && self.supporters(q).any(|t| fires(t) && alone(t));
+                }
+                held[line(q, PLUS_DELTA)]
+                    || self.supporters(q).any(fires)
+                        && held[line(not_q, MINUS_DELTA)]
+                        && self.attackers(q).all(|s| out(s) || self.supporters(q).any(|t| self.stronger(t, s) && fires(t)))
+            }
+            // "−∂q: −Δq is held, and one of: each supporter has an antecedent with −∂ held; +Δ of the complement is held; some
+            // attacker has +∂ held for all antecedents, and each supporter either has an antecedent with −∂ held or is not stronger
+            // than that attacker."
+            MINUS_PARTIAL => {
+                let fires = |s: usize| self.all(held, s, PLUS_PARTIAL);
+                let out = |t: usize| self.some(held, t, MINUS_PARTIAL);
+                (held[line(q, MINUS_DELTA)] || mutant(7))
+                    && (self.supporters(q).all(out)
+                        || held[line(not_q, PLUS_DELTA)]
+                        || self
+                            .attackers(q)
+                            .any(|s| fires(s) && self.supporters(q).all(|t| out(t) || !self.stronger(t, s))))
+            }
+            _ => unreachable!(),
+        }
+    }
+
+    /// "A rule with antecedents is settled by the first worked line after which all its antecedents have +∂ or one has −∂ among
+    /// worked lines." A rule without antecedents never is.
+    fn settled(&self, worked: &[bool], r: usize) -> bool {
+        !self.rules[r].body.is_empty() && (self.all(worked, r, PLUS_PARTIAL) || self.some(worked, r, MINUS_PARTIAL))
+    }
+
+    /// "the number of pairs naming that rule", on either side, whatever the heads
+    fn pairs_naming(&self, r: usize) -> usize {
+        self.pairs
+            .iter()
+            .filter(|&&(t, s)| t == r || s == r && !mutant(9))
+            .filter(|&&(t, s)| !mutant(8) || self.rules[t].head == complement(self.rules[s].head))
+            .count()
+    }
+
+    /// "A Δ line visits the strict rules with p as antecedent, a ∂ line all rules with p as antecedent.", "by rule number"
+    fn visited(&self, p: usize, tag: usize) -> Vec<usize> {
+        let is_delta = tag == PLUS_DELTA || tag == MINUS_DELTA;
+        (0..self.rules.len())
+            .filter(|&r| self.rules[r].body.contains(&p) && (!is_delta || self.rules[r].kind == 0))
+            .collect()
+    }
+
+    /// "A line costs 1, plus 1 for each visited rule, plus, for a ∂ line, for each rule that it settles, the number of pairs naming
+    /// that rule." `before` and `after` are the worked lines without and with this one.
+    fn price(&self, tag: usize, visited: &[usize], before: &[bool], after: &[bool]) -> usize {
+        let mut price = 1 + visited.len();
+        if tag == PLUS_PARTIAL || tag == MINUS_PARTIAL {
+            if mutant(2) {
+                return price + visited.iter().map(|&r| self.pairs_naming(r)).sum::<usize>();
+            }
+            for r in 0..self.rules.len() {
+                if self.settled(after, r) && !self.settled(before, r) {
+                    price += self.pairs_naming(r);
+                }
+            }
+        }
+        price
+    }
+
+    /// "The rule of working, and its price": the answer and the lines in the order of the log.
+    fn work(&self, budget: u32) -> (Answer, Vec<u16>) {
+        let budget = budget as usize;
+        // "If Size exceeds it, the answer is stopped with 0 lines, 0 worked, 0 spent."
+        if self.size > budget {
+            return (Answer::default(), vec![]);
+        }
+        // "Opening costs Size and writes every line that follows from nothing, by literal, then tag."
+        let mut spent = self.size;
+        if mutant(11) {
+            spent += (0..self.rules.len()).filter(|&r| self.rules[r].body.is_empty()).map(|r| self.pairs_naming(r)).sum::<usize>();
+        }
+        let mut held = vec![false; 8 * self.a]; // the worked lines
+        let mut written = vec![false; 8 * self.a]; // the lines in the log
+        let mut log: Vec<usize> = vec![];
+        for q in 0..2 * self.a {
+            for tag in 0..4 {
+                if self.follows(&held, q, tag) {
+                    log.push(line(q, tag));
+                }
+            }
+        }
+        for &l in &log {
+            written[l] = true;
+        }
+        // "Lines are worked in log order."
+        let mut worked = 0;
+        let mut finished = true;
+        while worked < log.len() {
+            let l = log[worked];
+            let (p, tag) = (l / 4, l % 4);
+            let visited = self.visited(p, tag);
+            let mut after = held.clone();
+            after[l] = true;
+            // "a line is worked if its price fits what is left; the first that doesn't stops the run. All worked: finished."
+            let price = self.price(tag, &visited, &held, &after);
+            if spent + price > budget {
+                finished = false;
+                break;
+            }
+            spent += price;
+            worked += 1;
+            held = after;
+            // "Working a line about p takes as candidates p, its complement, then, by rule number, the head and head's complement of
+            // each visited rule."
+            let mut candidates = vec![p, complement(p)];
+            for &r in &visited {
+                candidates.extend([self.rules[r].head, complement(self.rules[r].head)]);
+            }
+            if mutant(3) {
+                candidates[2..].reverse();
+            }
+            // "For each candidate, tags 0 to 3 in order, a line is written if it follows from the worked lines, this one included,
+            // and isn't in the log yet." The worked lines stay the same meanwhile: a candidate met again gives nothing new.
+            let mut tried = vec![false; 2 * self.a];
+            for q in candidates {
+                if tried[q] {
+                    continue;
+                }
+                tried[q] = true;
+                for tag in 0..4 {
+                    let new = line(q, tag);
+                    let from: &[bool] = if mutant(10) { &written } else { &held };
+                    if !written[new] && self.follows(from, q, tag) {
+                        written[new] = true;
+                        log.push(new);
+                    }
+                }
+            }
+        }
+        // "The answer gives lines, worked, spent: how many lines were written, how many of them were worked, and, once the opening is
+        // paid, Size plus the price of each line worked."
+        let answer = Answer {
+            refused: 0,
+            finished: finished as u32,
+            lines: log.len() as u32,
+            worked: worked as u32,
+            spent: spent as u32,
+        };
+        (answer, log.into_iter().map(|l| l as u16).collect())
+    }
+}
+
+/// The whole call: refusals 1 to 7, then 8 and 9, then the work. "A refusal returns its number alone".
+pub fn run(bytes: &[u8], budget: u32, log_len: usize, scratch_len: usize) -> (Answer, Vec<u16>) {
+    let refuse = |number: u32| (Answer { refused: number, ..Answer::default() }, vec![]);
+    let number = judge(bytes);
+    if number != 0 {
+        return refuse(number);
+    }
+    let a = word(bytes, 0);
+    if mutant(14) && log_len < 4 * a {
+        return refuse(9);
+    }
+    // "8 scratch: lent scratch below 32,768 16-bit words"
+    if scratch_len < SCRATCH {
+        return refuse(8);
+    }
+    // "9 log: lent log below 4A 16-bit words"
+    if log_len < 4 * a {
+        return refuse(9);
+    }
+    theory(bytes).work(budget)
+}
+
+/// "The sheet": "reads standard input (at most 32,779 bytes, a longer input judged on those), runs with budget 5A+F+N+3B+3P, and
+/// prints." Every line ends in a line feed (open point 4.1).
+pub fn sheet(bytes: &[u8]) -> String {
+    let bytes = &bytes[..bytes.len().min(32_779)];
+    // "A refused table prints `refused` and its number, one line, as `refused 7`."
+    let number = judge(bytes);
+    if number != 0 {
+        return format!("refused {number}\n");
+    }
+    let theory = theory(bytes);
+    let (answer, log) = theory.work(theory.bound as u32);
+    let has = |q: usize, tag: usize| log.contains(&(line(q, tag) as u16));
+    // "first the atom count, then atom and verdict, then spent and bound"
+    let mut text = format!("atoms {}\n", theory.a);
+    for a in 0..theory.a {
+        let (yes, no) = (2 * a, 2 * a + 1);
+        // "Verdict of atom a, first that fits: go (+∂ of 2a), hold (+∂ of 2a+1), split (−∂ of both), open."
+        let verdict = if mutant(18) && has(no, PLUS_PARTIAL) {
+            "hold"
+        } else if has(yes, PLUS_PARTIAL) {
+            "go"
+        } else if has(no, PLUS_PARTIAL) {
+            "hold"
+        } else if has(yes, MINUS_PARTIAL) && has(no, MINUS_PARTIAL) {
+            "split"
+        } else {
+            "open"
+        };
+        text += &format!("{a} {verdict}\n");
+    }
+    text + &format!("spent {} of {}\n", answer.spent, theory.bound)
+}
+
+/// The bound "5A+F+N+3B+3P" and Size of an accepted table, for choosing budgets.
+pub fn bound_and_size(bytes: &[u8]) -> (u32, u32) {
+    let t = theory(bytes);
+    (t.bound as u32, t.size as u32)
+}

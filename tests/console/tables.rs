@@ -1,0 +1,717 @@
+//! Seeded tables for the comparison: legal ones of many shapes, damaged ones, and bytes that were never a table.
+
+/// splitmix64
+pub struct Rng(pub u64);
+
+impl Rng {
+    pub fn next(&mut self) -> u64 {
+        self.0 = self.0.wrapping_add(0x9E37_79B9_7F4A_7C15);
+        let mut z = self.0;
+        z = (z ^ (z >> 30)).wrapping_mul(0xBF58_476D_1CE4_E5B9);
+        z = (z ^ (z >> 27)).wrapping_mul(0x94D0_49BB_1331_11EB);
+        z ^ (z >> 31)
+    }
+
+    /// below n; n is not 0
+    pub fn below(&mut self, n: usize) -> usize {
+        ((self.next() >> 32) as usize * n) >> 32
+    }
+
+    /// from low to high, both included
+    pub fn within(&mut self, low: usize, high: usize) -> usize {
+        low + self.below(high - low + 1)
+    }
+
+    /// true k times of n
+    pub fn chance(&mut self, k: usize, n: usize) -> bool {
+        self.below(n) < k
+    }
+
+    pub fn pick<T: Copy>(&mut self, from: &[T]) -> T {
+        from[self.below(from.len())]
+    }
+
+    fn order(&mut self, n: usize) -> Vec<usize> {
+        let mut v: Vec<usize> = (0..n).collect();
+        for i in (1..n).rev() {
+            v.swap(i, self.below(i + 1));
+        }
+        v
+    }
+}
+
+pub const LIMITS: [usize; 5] = [512, 1_024, 1_024, 4_096, 2_048];
+
+type Entry = (u16, u16);
+
+/// A table as sections of (left, right): facts, rules, antecedent entries, pairs.
+#[derive(Clone, Default)]
+pub struct Draft {
+    pub a: usize,
+    pub sections: [Vec<Entry>; 4],
+}
+
+const FACTS: usize = 0;
+const RULES: usize = 1;
+const ENTRIES: usize = 2;
+const PAIRS: usize = 3;
+
+impl Draft {
+    fn atoms(a: usize) -> Draft {
+        Draft { a, ..Draft::default() }
+    }
+
+    fn n(&self) -> usize {
+        self.sections[RULES].len()
+    }
+
+    pub fn fact(&mut self, q: usize) {
+        self.sections[FACTS].push((0, q as u16));
+    }
+
+    pub fn rule(&mut self, kind: usize, head: usize, body: &[usize]) -> usize {
+        let r = self.n();
+        self.sections[RULES].push((kind as u16, head as u16));
+        self.sections[ENTRIES].extend(body.iter().map(|&q| (r as u16, q as u16)));
+        r
+    }
+
+    pub fn pair(&mut self, t: usize, s: usize) {
+        self.sections[PAIRS].push((t as u16, s as u16));
+    }
+
+    fn head(&self, r: usize) -> usize {
+        self.sections[RULES][r].1 as usize
+    }
+
+    fn opposed(&self, t: usize, s: usize) -> bool {
+        self.head(t) ^ 1 == self.head(s)
+    }
+
+    /// facts, entries and pairs sorted, doubles taken out
+    pub fn tidy(&mut self) {
+        for s in [FACTS, ENTRIES, PAIRS] {
+            self.sections[s].sort();
+            self.sections[s].dedup();
+        }
+    }
+
+    pub fn bytes(&self) -> Vec<u8> {
+        let all: Vec<Entry> = self.sections.concat();
+        let mut words = vec![self.a as u16];
+        words.extend(self.sections.iter().map(|s| s.len() as u16));
+        words.extend(all.iter().map(|e| e.0));
+        words.extend(all.iter().map(|e| e.1));
+        words.iter().flat_map(|w| w.to_le_bytes()).collect()
+    }
+
+    /// Pairs without a circle: each goes down a random order of the rules. Opposed heads with chance `opposed` of 12, others with
+    /// chance `idle` of 12.
+    fn all_pairs(&mut self, r: &mut Rng, opposed: usize, idle: usize) {
+        let rank = r.order(self.n());
+        for t in 0..self.n() {
+            for s in 0..self.n() {
+                let k = if self.opposed(t, s) { opposed } else { idle };
+                if rank[t] < rank[s] && k > 0 && r.chance(k, 12) {
+                    self.pair(t, s);
+                }
+            }
+        }
+    }
+
+    /// Up to `count` pairs without a circle, for large tables: between opposed rules where one is found quickly.
+    fn some_pairs(&mut self, r: &mut Rng, count: usize, idle: usize) {
+        if self.n() < 2 {
+            return;
+        }
+        let rank = r.order(self.n());
+        let mut with_head = vec![vec![]; 2 * self.a];
+        for i in 0..self.n() {
+            with_head[self.head(i)].push(i);
+        }
+        for _ in 0..8 {
+            for _ in self.sections[PAIRS].len()..count {
+                let t = r.below(self.n());
+                let foes = &with_head[self.head(t) ^ 1];
+                let s = if foes.is_empty() || r.chance(idle, 12) { r.below(self.n()) } else { r.pick(foes) };
+                if rank[t] < rank[s] {
+                    self.pair(t, s);
+                } else if rank[s] < rank[t] {
+                    self.pair(s, t);
+                }
+            }
+            self.tidy();
+        }
+        // the rest, if the opposed ones are exhausted
+        for t in 0..self.n() {
+            for s in 0..self.n() {
+                if self.sections[PAIRS].len() < count && rank[t] < rank[s] {
+                    let e = (t as u16, s as u16);
+                    if !self.sections[PAIRS].contains(&e) {
+                        self.sections[PAIRS].push(e);
+                    }
+                }
+            }
+            if self.sections[PAIRS].len() >= count {
+                break;
+            }
+        }
+        self.tidy();
+    }
+}
+
+/// Three weights for the kinds of one table's rules.
+fn kinds(r: &mut Rng) -> [usize; 3] {
+    r.pick(&[[1, 1, 1], [1, 4, 1], [0, 1, 0], [0, 3, 1], [1, 0, 0], [2, 3, 0], [1, 6, 2], [0, 1, 1], [5, 1, 0]])
+}
+
+fn kind(r: &mut Rng, weights: [usize; 3]) -> usize {
+    let x = r.below(weights.iter().sum());
+    (0..3).find(|&k| x < weights[..=k].iter().sum()).unwrap()
+}
+
+/// A random table: bodies free, layered (atoms below the head's) or of few literals.
+fn random(r: &mut Rng, a: usize, n: usize, longest: usize) -> Draft {
+    let mut d = Draft::atoms(a);
+    let facts = r.pick(&[0, 0, 1, 2, 4, 6]);
+    for q in 0..2 * a {
+        if r.chance(facts, 12) {
+            d.fact(q);
+        }
+    }
+    let weights = kinds(r);
+    let style = r.below(3);
+    for _ in 0..n {
+        let head = r.below(2 * a);
+        let room = match style {
+            0 => 2 * a,
+            1 => head & !1,
+            _ => a.max(2).min(2 * a),
+        };
+        let length = if room == 0 { 0 } else { r.below(longest + 1) };
+        let body: Vec<usize> = (0..length).map(|_| r.below(room)).collect();
+        let k = kind(r, weights);
+        d.rule(k, head, &body);
+    }
+    d
+}
+
+fn random_small(r: &mut Rng) -> Draft {
+    let (a, n, longest) = (r.within(1, 5), r.below(11), r.below(4));
+    let mut d = random(r, a, n, longest);
+    let (x, y) = (r.pick(&[0, 2, 5, 9, 12]), r.pick(&[0, 0, 0, 1, 3]));
+    d.all_pairs(r, x, y);
+    d
+}
+
+/// One rule after another, from a fact, a rule without antecedents or nothing; some attackers on the way.
+fn chain(r: &mut Rng) -> Draft {
+    let a = r.within(2, 9);
+    let mut d = Draft::atoms(a);
+    let literal: Vec<usize> = (0..a).map(|i| 2 * i + r.below(2)).collect();
+    match r.below(4) {
+        0 | 1 => d.fact(literal[0]),
+        2 => {
+            d.rule(1, literal[0], &[]);
+        }
+        _ => (),
+    }
+    let weights = kinds(r);
+    let down = r.chance(1, 2);
+    for i in 0..a - 1 {
+        let i = if down { a - 2 - i } else { i };
+        let k = kind(r, weights);
+        d.rule(k, literal[i + 1], &[literal[i]]);
+        if r.chance(1, 4) {
+            let k = kind(r, weights);
+            let from = r.below(2 * a);
+            let body = if r.chance(1, 2) { vec![] } else { vec![from] };
+            d.rule(k, literal[i + 1] ^ 1, &body);
+        }
+    }
+    d.all_pairs(r, 6, 0);
+    d
+}
+
+/// Circles of rules, with or without a way in, and attackers.
+fn loops(r: &mut Rng) -> Draft {
+    let a = r.within(1, 6);
+    let mut d = Draft::atoms(a);
+    let weights = kinds(r);
+    for _ in 0..r.within(1, 3) {
+        let ring: Vec<usize> = (0..r.within(1, 4)).map(|_| r.below(2 * a)).collect();
+        for i in 0..ring.len() {
+            let k = kind(r, weights);
+            let more = r.below(2 * a);
+            let body = if r.chance(1, 4) { vec![ring[i], more] } else { vec![ring[i]] };
+            d.rule(k, ring[(i + 1) % ring.len()], &body);
+        }
+        if r.chance(1, 3) {
+            d.rule(1, ring[0], &[]);
+        }
+        if r.chance(1, 4) {
+            d.fact(ring[0]);
+        }
+        if r.chance(1, 3) {
+            let (k, q) = (r.below(3), r.pick(&ring));
+            d.rule(k, q ^ 1, &[]);
+        }
+    }
+    d.all_pairs(r, 6, 1);
+    d
+}
+
+/// Supporters against attackers of atom 0; each rule rests on an atom that is a fact, proved, refuted or open.
+fn teams(r: &mut Rng) -> Draft {
+    let m = r.within(2, 8);
+    let mut d = Draft::atoms(1 + m);
+    let weights = kinds(r);
+    for i in 1..=m {
+        let body = if r.chance(1, 5) { vec![] } else { vec![2 * i] };
+        match r.below(6) {
+            0 | 1 => d.fact(2 * i),
+            2 | 3 => {
+                d.rule(1, 2 * i, &[]);
+            }
+            4 => {
+                d.rule(1, 2 * i, &[2 * i]);
+            }
+            _ => (),
+        }
+        let (k, side) = (kind(r, weights), r.below(2));
+        d.rule(k, side, &body);
+    }
+    let x = r.within(3, 12);
+    d.all_pairs(r, x, 0);
+    d
+}
+
+/// A team: every attacker of literal 0 is beaten by some supporter, none need beat all. Most rules fire; a pair may be missing.
+fn platypus(r: &mut Rng) -> Draft {
+    let (supporters, attackers) = (r.within(1, 4), r.within(1, 4));
+    let n = supporters + attackers;
+    let mut d = Draft::atoms(1 + n);
+    let order = r.order(n);
+    for i in 0..n {
+        let (holds, q) = (r.chance(5, 6), 2 * (i + 1) + r.below(2));
+        if holds {
+            d.fact(q);
+        }
+        let kind = if order[i] < supporters { 1 - r.below(8) / 7 } else { 1 + r.below(2) };
+        let body = if r.chance(1, 4) { vec![] } else { vec![q] };
+        d.rule(kind, (order[i] >= supporters) as usize, &body);
+    }
+    for s in 0..n {
+        if order[s] >= supporters && r.chance(11, 12) {
+            let strong = r.below(supporters);
+            let t = (0..n).find(|&t| order[t] == strong).unwrap();
+            d.pair(t, s);
+        }
+    }
+    d
+}
+
+/// Many rules on one atom.
+fn crowd(r: &mut Rng, most: usize) -> Draft {
+    let a = r.within(1, 3);
+    let mut d = Draft::atoms(a);
+    let weights = kinds(r);
+    for _ in 0..r.within(most / 3, most) {
+        let length = r.below(3);
+        let body: Vec<usize> = (0..length).map(|_| r.below(2 * a)).collect();
+        let (k, side) = (kind(r, weights), r.below(2));
+        d.rule(k, side, &body);
+    }
+    if r.chance(1, 2) {
+        d.fact(r.below(2 * a));
+    }
+    if most < 60 {
+        let (x, y) = (r.within(1, 8), r.below(2));
+        d.all_pairs(r, x, y);
+    } else {
+        let count = r.below(LIMITS[4]);
+        d.some_pairs(r, count, 1);
+    }
+    d
+}
+
+/// A chain of pairs through all rules, so that a closure would add many; heads alternate, or nearly.
+fn deep_pairs(r: &mut Rng) -> Draft {
+    let a = r.within(1, 3);
+    let mut d = Draft::atoms(a);
+    let weights = kinds(r);
+    let n = r.within(2, 12);
+    for i in 0..n {
+        let k = kind(r, weights);
+        let head = if r.chance(5, 6) { i % 2 } else { r.below(2 * a) };
+        let from = 2 * r.below(a);
+        let body = if r.chance(1, 3) { vec![from] } else { vec![] };
+        d.rule(k, head, &body);
+    }
+    let order = r.order(n);
+    for w in order.windows(2) {
+        d.pair(w[0], w[1]);
+    }
+    d
+}
+
+/// Pairs between rules whose heads are not complementary: they have a price and no effect.
+fn idle_pairs(r: &mut Rng) -> Draft {
+    let (a, n) = (r.within(1, 4), r.within(2, 8));
+    let mut d = random(r, a, n, 2);
+    let (x, y) = (r.below(3), r.within(3, 12));
+    d.all_pairs(r, x, y);
+    d
+}
+
+fn facts_only(r: &mut Rng) -> Draft {
+    let mut d = Draft::atoms(r.within(1, 12));
+    let k = r.within(0, 12);
+    for q in 0..2 * d.a {
+        if r.chance(k, 12) {
+            d.fact(q);
+        }
+    }
+    d
+}
+
+pub const SMALL_SHAPES: usize = 12;
+
+/// A small legal table.
+pub fn small(r: &mut Rng) -> Draft {
+    let mut d = match r.below(SMALL_SHAPES) {
+        0 => Draft::atoms(if r.chance(1, 3) { 0 } else { r.below(20) }),
+        1 => facts_only(r),
+        2 | 3 | 4 => random_small(r),
+        5 => chain(r),
+        6 => loops(r),
+        7 => teams(r),
+        8 => platypus(r),
+        9 => crowd(r, 15),
+        10 => deep_pairs(r),
+        _ => idle_pairs(r),
+    };
+    d.tidy();
+    d
+}
+
+/// A legal table of some dozens of atoms and rules.
+pub fn medium(r: &mut Rng) -> Draft {
+    let mut d = if r.chance(1, 6) {
+        crowd(r, 50)
+    } else {
+        let (a, n, longest) = (r.within(6, 40), r.within(10, 90), r.within(1, 4));
+        let mut d = random(r, a, n, longest);
+        let count = r.below(3 * n);
+        d.some_pairs(r, count, 2);
+        d
+    };
+    d.tidy();
+    d
+}
+
+pub const BIG_SHAPES: usize = 10;
+
+/// A legal table with one or all of its sizes at the limit.
+pub fn big(r: &mut Rng, shape: usize) -> Draft {
+    let [a, _, n, b, p] = LIMITS;
+    let weights = kinds(r);
+    let mut d = Draft::atoms(a);
+    match shape {
+        // A alone
+        0 => (),
+        // A and F: every literal is a fact
+        1 => (0..2 * a).for_each(|q| d.fact(q)),
+        // all five, every literal a fact (2); N, B and P without facts, layered with a smaller B (3) or free (4)
+        2 | 3 | 4 => {
+            if shape == 2 {
+                (0..2 * a).for_each(|q| d.fact(q));
+            }
+            for i in 0..n {
+                let head = if shape == 3 { r.within(10, 2 * a - 1) } else { r.below(2 * a) };
+                let room = if shape == 3 { head & !1 } else { 2 * a };
+                let mut body: Vec<usize> = vec![];
+                while body.len() < 4 {
+                    let q = r.below(room);
+                    if !body.contains(&q) {
+                        body.push(q);
+                    }
+                }
+                let k = kind(r, weights);
+                if shape == 3 && i < n / 4 {
+                    body.truncate(1);
+                }
+                d.rule(k, head, &body);
+            }
+            d.some_pairs(r, p, 1);
+        }
+        // N rules without antecedents on all atoms, P pairs
+        5 => {
+            for _ in 0..n {
+                let (k, head) = (kind(r, weights), r.below(2 * a));
+                d.rule(k, head, &[]);
+            }
+            d.some_pairs(r, p, 1);
+        }
+        // N rules on few atoms, P pairs
+        6 => {
+            d.a = r.within(1, 6);
+            for _ in 0..n {
+                let length = r.below(3);
+                let body: Vec<usize> = (0..length).map(|_| r.below(2 * d.a)).collect();
+                let (k, side) = (kind(r, weights), r.below(2));
+                d.rule(k, side, &body);
+            }
+            d.some_pairs(r, p, 1);
+        }
+        // a chain through all atoms, N rules, one way for the literal and one for its complement
+        7 => {
+            let k = r.below(2);
+            d.fact(0);
+            for i in 0..n {
+                let q = 2 * (i % a);
+                d.rule(if i < a { k } else { 2 - r.below(2) }, (q + 2) % (2 * a) + i / a, &[q]);
+            }
+            d.some_pairs(r, 1_000, 0);
+        }
+        // four rules with all literals as antecedents: B at its limit
+        8 => {
+            let all: Vec<usize> = (0..2 * a).collect();
+            for _ in 0..b / (2 * a) {
+                let (k, head) = (kind(r, weights), r.below(8));
+                d.rule(k, head, &all);
+            }
+            for q in 0..2 * a {
+                if r.chance(1, 2) && q > 8 {
+                    d.fact(q);
+                }
+            }
+            d.all_pairs(r, 6, 6);
+        }
+        // a single chain of pairs through all N rules, teams on all atoms
+        _ => {
+            for i in 0..n {
+                let k = kind(r, weights);
+                let (q, from) = (i % (2 * a), 2 * r.below(a));
+                let body = if r.chance(1, 2) { vec![] } else { vec![from] };
+                d.rule(k, q, &body);
+            }
+            for i in 0..n - 1 {
+                d.pair(i, i + 1);
+            }
+        }
+    }
+    d.tidy();
+    d
+}
+
+/// A large random legal table within the limits.
+pub fn large(r: &mut Rng) -> Draft {
+    if r.chance(1, 3) {
+        let shape = r.below(BIG_SHAPES);
+        return big(r, shape);
+    }
+    let (a, n) = (r.within(60, 512), r.within(50, 1_024));
+    let longest = r.within(1, 4);
+    let mut d = random(r, a, n, longest);
+    let count = r.below(LIMITS[4]);
+    d.some_pairs(r, count, 1);
+    d.tidy();
+    d
+}
+
+pub const FAULTS: usize = 13;
+
+/// One fault in the sections. Not every fault makes the table illegal, and a fault in an empty section may do nothing.
+pub fn fault(r: &mut Rng, d: &mut Draft, which: usize) {
+    let n = d.n() as u16;
+    let a2 = 2 * d.a as u16;
+    let literal = r.pick(&[a2, a2, a2, a2 + 1, a2 ^ 256, 65_535, a2.wrapping_sub(1), a2 + 2]);
+    let rule = r.pick(&[n, n, n, n + 1, n ^ 256, 65_535, n.wrapping_sub(1)]);
+    let sorted = r.chance(1, 2);
+    // a random place in a section, if it has one
+    let mut place = |d: &Draft, s: usize| (!d.sections[s].is_empty()).then(|| r.below(d.sections[s].len()));
+    match which {
+        0 => {
+            if let Some(i) = place(d, FACTS) {
+                d.sections[FACTS][i].0 = r.pick(&[1, 2, 255, 256, 65_535]);
+            }
+        }
+        1 => {
+            if let Some(i) = place(d, RULES) {
+                d.sections[RULES][i].0 = r.pick(&[3, 3, 4, 255, 256, 257, 65_535]);
+            }
+        }
+        2 => match place(d, FACTS) {
+            Some(i) => d.sections[FACTS][i].1 = literal,
+            None => d.fact(literal as usize),
+        },
+        3 => {
+            if let Some(i) = place(d, RULES) {
+                d.sections[RULES][i].1 = literal;
+            }
+        }
+        4 => {
+            if let Some(i) = place(d, ENTRIES) {
+                d.sections[ENTRIES][i].1 = literal;
+            }
+        }
+        5 => match place(d, ENTRIES) {
+            Some(i) => d.sections[ENTRIES][i].0 = rule,
+            None => d.sections[ENTRIES].push((rule, 0)),
+        },
+        6 => match place(d, PAIRS) {
+            Some(i) if sorted => d.sections[PAIRS][i].0 = rule,
+            Some(i) => d.sections[PAIRS][i].1 = rule,
+            None => d.sections[PAIRS].push((0, rule)),
+        },
+        // two neighbours swapped
+        7 => {
+            let s = r.pick(&[FACTS, ENTRIES, PAIRS]);
+            let length = d.sections[s].len();
+            if length > 1 {
+                let i = r.below(length - 1);
+                d.sections[s].swap(i, i + 1);
+            }
+        }
+        // two equal neighbours
+        8 => {
+            let s = r.pick(&[FACTS, ENTRIES, PAIRS]);
+            if !d.sections[s].is_empty() {
+                let i = r.below(d.sections[s].len());
+                let e = d.sections[s][i];
+                d.sections[s].insert(i, e);
+            }
+        }
+        // a circle of pairs, in order
+        9 | 10 => {
+            if n > 0 {
+                let most = if r.chance(1, 4) { n as usize } else { (n as usize).min(4) };
+                let length = r.within(1, most);
+                let order = r.order(n as usize);
+                for i in 0..length {
+                    d.pair(order[i], order[(i + 1) % length]);
+                }
+                d.sections[PAIRS].sort();
+                d.sections[PAIRS].dedup();
+            }
+        }
+        // one word anywhere
+        11 => {
+            let s = r.below(4);
+            if !d.sections[s].is_empty() {
+                let i = r.below(d.sections[s].len());
+                let new = if r.chance(1, 4) { r.next() as u16 } else { r.below(12) as u16 };
+                let e = &mut d.sections[s][i];
+                *(if sorted { &mut e.0 } else { &mut e.1 }) = new;
+            }
+        }
+        // a section turned round, or two entries far apart swapped
+        _ => {
+            let s = r.pick(&[FACTS, ENTRIES, PAIRS]);
+            let length = d.sections[s].len();
+            if sorted {
+                d.sections[s].reverse();
+            } else if length > 1 {
+                let (i, j) = (r.below(length), r.below(length));
+                d.sections[s].swap(i, j);
+            }
+        }
+    }
+}
+
+/// One fault in the bytes: bytes, words, sizes or the length.
+pub fn byte_fault(r: &mut Rng, bytes: &mut Vec<u8>) {
+    match r.below(6) {
+        0 | 1 => {
+            for _ in 0..r.within(1, 3) {
+                if !bytes.is_empty() {
+                    let i = r.below(bytes.len());
+                    bytes[i] = match r.below(3) {
+                        0 => r.next() as u8,
+                        1 => bytes[i] ^ (1 << r.below(8)),
+                        _ => r.below(6) as u8,
+                    };
+                }
+            }
+        }
+        2 => {
+            let by = r.pick(&[1, 1, 2, 3, 4, 8]);
+            bytes.truncate(bytes.len().saturating_sub(by));
+        }
+        3 => {
+            for _ in 0..r.pick(&[1, 1, 2, 3, 4, 8]) {
+                bytes.push(r.below(4) as u8);
+            }
+        }
+        4 => {
+            // a size, the file left as it is
+            if bytes.len() >= 10 {
+                let i = r.below(5);
+                let old = u16::from_le_bytes([bytes[2 * i], bytes[2 * i + 1]]);
+                let limit = LIMITS[i] as u16;
+                let many = r.next() as u16;
+                let size = r.pick(&[limit, limit + 1, limit + 1, limit - 1, old + 1, old.wrapping_sub(1), 65_535, many, 0]);
+                bytes[2 * i..2 * i + 2].copy_from_slice(&size.to_le_bytes());
+            }
+        }
+        _ => {
+            // two sizes moved against each other, so that the length stays right
+            if bytes.len() >= 10 {
+                let (i, j) = (r.within(1, 4), r.within(1, 4));
+                let at = |k: usize| u16::from_le_bytes([bytes[2 * k], bytes[2 * k + 1]]);
+                let (x, y) = (at(i), at(j));
+                if i != j && x > 0 {
+                    bytes[2 * i..2 * i + 2].copy_from_slice(&(x - 1).to_le_bytes());
+                    bytes[2 * j..2 * j + 2].copy_from_slice(&(y + 1).to_le_bytes());
+                }
+            }
+        }
+    }
+}
+
+/// A legal table with one to three faults.
+pub fn damaged(r: &mut Rng, mut d: Draft) -> Vec<u8> {
+    let count = r.pick(&[1, 1, 1, 2, 2, 3]);
+    let of_bytes = r.pick(&[0, 0, 0, 1, 2]).min(count);
+    for _ in of_bytes..count {
+        let which = r.below(FAULTS);
+        fault(r, &mut d, which);
+    }
+    let mut bytes = d.bytes();
+    for _ in 0..of_bytes {
+        byte_fault(r, &mut bytes);
+    }
+    bytes
+}
+
+/// Bytes that were never a table: any bytes, or small sizes with small words behind them, of the right length or nearly.
+pub fn noise(r: &mut Rng) -> Vec<u8> {
+    match r.below(4) {
+        0 => (0..r.below(120)).map(|_| r.next() as u8).collect(),
+        1 => (0..r.below(60)).map(|_| r.below(3) as u8).collect(),
+        _ => {
+            let most = r.within(1, 4);
+            let sizes: Vec<usize> = (0..5).map(|_| r.below(most)).collect();
+            let t: usize = sizes[1..].iter().sum();
+            let top = r.within(1, 4);
+            let mut words: Vec<u16> = sizes.iter().map(|&s| s as u16).collect();
+            words.extend((0..2 * t).map(|i| if i < sizes[1] { 0 } else { r.below(top) as u16 }));
+            let mut bytes: Vec<u8> = words.iter().flat_map(|w| w.to_le_bytes()).collect();
+            if r.chance(1, 8) {
+                byte_fault(r, &mut bytes);
+            }
+            bytes
+        }
+    }
+}
+
+/// A table with the k-th size at `value` and every other size 0 (A 1 where k is not 0), with the length that the sizes ask for.
+pub fn sized(k: usize, value: usize) -> Vec<u8> {
+    let mut sizes = [1, 0, 0, 0, 0];
+    sizes[k] = value;
+    let t: usize = sizes[1..].iter().sum();
+    let mut bytes: Vec<u8> = sizes.iter().flat_map(|&s| (s as u16).to_le_bytes()).collect();
+    bytes.resize(10 + 4 * t, 0);
+    bytes
+}
