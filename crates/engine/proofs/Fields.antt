@@ -275,6 +275,13 @@ module _ (b : List ℕ) (s : Sizes) where
   pub pairs-facts : (q : ℕ) → pairsTo (theoryIn b s) (s .pairs) 20 q ≡ 0
   pairs-facts q = total-zero (s .pairs) _ (λ i _. pair-20 _ _ _ q)
 
+  -- pairs leave heads and kinds alone
+  pub pairs-heads : (n r : ℕ) → pairsTo (theoryIn b s) n 9 r ≡ 0
+  pairs-heads n r = total-zero n _ (λ i _. pair-9 _ _ _ r)
+
+  pub pairs-kinds : (n r : ℕ) → pairsTo (theoryIn b s) n 10 r ≡ 0
+  pairs-kinds n r = total-zero n _ (λ i _. pair-10 _ _ _ r)
+
   pub index-uses : (q : ℕ) → indexTo b s 16 q ≡ usesOf b s q
   index-uses q =
       let x : rulesTo (theoryIn b s) (s .rules) 16 q ≡ 0 = total-zero (s .rules) _ (λ r _. rule-16 _ _ r q) in

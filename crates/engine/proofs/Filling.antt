@@ -16,13 +16,13 @@ use Rattle.table.specs.declared.judge.Judgement.the-variants.{Accepted}
 use Rattle.table.specs.Format.{entryAt, pairAt, bodyIn, theoryIn}
 use Rattle.table.specs.Refusals.{judgementOf}
 use Rattle.table.proofs.Legal.{legal, Limited, limited, ranged, head-below, stronger-below}
-use Rattle.engine.specs.Memory.{view, useAt, has, usesF, usesFrom, firstF, factF, sizeF, fires, isOut, Indexed, Counted}
-use Rattle.engine.specs.Indexing.{rulesTo, entriesTo, pairsTo, Grew, Low, Facts, Firsts, usesOf, usesBelow, usesTo, Begun, Placed, Started}
+use Rattle.engine.specs.Memory.{view, useAt, has, headF, kindF, usesF, usesFrom, firstF, factF, sizeF, fires, isOut, Indexed, Counted}
+use Rattle.engine.specs.Indexing.{rulesTo, entriesTo, pairsTo, Grew, Low, Ruled, Facts, Firsts, usesOf, usesBelow, usesTo, Begun, Placed, Started}
 use Rattle.engine.proofs.Growth.{kept-then}
 use Rattle.engine.proofs.Turns.{rules-most, entries-most}
 use Rattle.engine.proofs.Sorting.{uses-few}
 use Rattle.engine.proofs.Placing.{placed-list, entry-rules}
-use Rattle.engine.proofs.Fields.{Moving, indexTo, index-moving, index-heads, index-kinds, index-stricts, index-supports, index-headed, rules-facts, entries-facts, pairs-facts, index-uses, index-sizes, index-namings, index-rivals}
+use Rattle.engine.proofs.Fields.{Moving, indexTo, index-moving, index-heads, index-kinds, index-stricts, index-supports, index-headed, rules-facts, entries-facts, pairs-facts, pairs-heads, pairs-kinds, index-uses, index-sizes, index-namings, index-rivals}
 
 -- outside the memory's indices there is 0
 past : (m : List ℕ) (f i : ℕ) → 1024 ≤ i → view m f i ≡ 0
@@ -61,6 +61,15 @@ module _ (b : List ℕ) (s : Sizes) (a : judgementOf b ≡ Accepted s) {m0 m1 : 
           record {
             room = omega (arith, low-2 .room, g3 .kept .size);
             low = λ f i. omega (arith, low-2 .low f i, g3 .words f i, entries-most b s (s .entries) f i, small .entries);
+          }
+
+      -- the rules' heads and kinds, which the pairs are weighed by
+      pub ruled-3 : Ruled (theoryIn b s) m3
+      unfolding theoryIn
+      ruled-3 =
+          record {
+            heads = λ r h. omega (arith, z .low headF r, g1 .words headF r, g2 .only .others headF r (λ e. absurd (omega arith)), g3 .words headF r, index-heads b s r h, pairs-heads b s (s .pairs) r);
+            kinds = λ r h. omega (arith, z .low kindF r, g1 .words kindF r, g2 .only .others kindF r (λ e. absurd (omega arith)), g3 .words kindF r, index-kinds b s r h, pairs-kinds b s (s .pairs) r);
           }
 
       module _ {m4 : List ℕ} (g4 : Grew m3 m4 (pairsTo (theoryIn b s) (s .pairs))) where

@@ -22,3 +22,4 @@ pub mod Visits
 pub mod Walks
 pub mod Accepted
 pub mod Adding
+pub mod Rivals

@@ -1,5 +1,5 @@
 -- `engine::memory::index::fill` meets its contract. Assumes nothing.
-use Rattle.engine.proofs.Filling.{room-1, blank-facts, low-2, low-3, room-4, room-5, uses-5, room-6, uses-6, started-none}
+use Rattle.engine.proofs.Filling.{room-1, blank-facts, low-2, low-3, ruled-3, room-4, room-5, uses-5, room-6, uses-6, started-none}
 use borrow.Author.Needs.{needs}
 use Rattle.engine.proofs.memory.index.fill.Statement.{statement}
 use Rattle.engine.proofs.memory.index.fill.Tie as tie
@@ -14,7 +14,7 @@ add-entries-requires : tie.Need-add-entries-requires
 add-entries-requires c κs = (c .before .before .before .before .before .before .before .before .before .before .before .pre .0, low-2 _ _ (c .before .before .before .before .before .before .before .before .before .before .before .pre .0) (c .before .before .before .before .before .before .before .before .before .before .before .pre .1) (c .before .before .before .before .before .before .before .add-rules .ensures) (c .before .before .before .mark-facts .ensures))
 
 add-pairs-requires : tie.Need-add-pairs-requires
-add-pairs-requires c κs = (c .before .before .before .before .before .before .before .before .before .before .before .before .before .before .before .pre .0, low-3 _ _ (c .before .before .before .before .before .before .before .before .before .before .before .before .before .before .before .pre .0) (c .before .before .before .before .before .before .before .before .before .before .before .before .before .before .before .pre .1) (c .before .before .before .before .before .before .before .before .before .before .before .add-rules .ensures) (c .before .before .before .before .before .before .before .mark-facts .ensures) (c .before .before .before .add-entries .ensures))
+add-pairs-requires c κs = (c .before .before .before .before .before .before .before .before .before .before .before .before .before .before .before .pre .0, low-3 _ _ (c .before .before .before .before .before .before .before .before .before .before .before .before .before .before .before .pre .0) (c .before .before .before .before .before .before .before .before .before .before .before .before .before .before .before .pre .1) (c .before .before .before .before .before .before .before .before .before .before .before .add-rules .ensures) (c .before .before .before .before .before .before .before .mark-facts .ensures) (c .before .before .before .add-entries .ensures), ruled-3 _ _ (c .before .before .before .before .before .before .before .before .before .before .before .before .before .before .before .pre .0) (c .before .before .before .before .before .before .before .before .before .before .before .before .before .before .before .pre .1) (c .before .before .before .before .before .before .before .before .before .before .before .add-rules .ensures) (c .before .before .before .before .before .before .before .mark-facts .ensures) (c .before .before .before .add-entries .ensures))
 
 mark-firsts-requires : tie.Need-mark-firsts-requires
 mark-firsts-requires c κs = (c .before .before .before .before .before .before .before .before .before .before .before .before .before .before .before .before .before .before .before .pre .0, room-4 _ _ (c .before .before .before .before .before .before .before .before .before .before .before .before .before .before .before .before .before .before .before .pre .0) (c .before .before .before .before .before .before .before .before .before .before .before .before .before .before .before .before .before .before .before .pre .1) (c .before .before .before .before .before .before .before .before .before .before .before .before .before .before .before .add-rules .ensures) (c .before .before .before .before .before .before .before .before .before .before .before .mark-facts .ensures) (c .before .before .before .before .before .before .before .add-entries .ensures) (c .before .before .before .add-pairs .ensures))
