@@ -1,13 +1,13 @@
 -- Laws of the format's readers. Assumes nothing.
 use Prim.Native.Nat.{ℕ, zero, suc, _+_, _*_, _/_, _≤_, _<_}
-use native.Mathlib.Nat.{not-le-of-lt, le-antisymm}
+use native.Mathlib.Nat.{le-antisymm}
 use native.Mathlib.Numerals.{add-one}
 use native.Mathlib.Omega.{arith}
-use mathlib.Core.Path.{_≡_, refl, sym, _∙_, ap, ap₂, subst}
+use mathlib.Core.Path.{_≡_, refl, sym, _∙_, ap, ap₂}
 use mathlib.Core.Bool.{Bool, false}
 use mathlib.Core.List.{List}
 use Rattle.logic.specs.Tests.{_or_, some}
-use lib.Dec.{T, leb, leb→le, le→leb, ltb, lt→ltb}
+use lib.Dec.{leb, ltb, lt→ltb}
 use Rattle.logic.proofs.Tests.{cond-true}
 use Rattle.table.specs.declared.format.Sizes.{Sizes}
 use Rattle.table.specs.declared.format.Kind.the-variants.{Defeater}
@@ -27,13 +27,6 @@ right-read b s from n i span r h e f = f ∙ ap (λ k. word b (5 + k + (from + i
 -- a word within the bytes
 pub half-below : {i n : ℕ} → 2 * i + 2 ≤ n → i < n / 2
 half-below h = omega arith
-
--- a number read as r, against a limit
-pub at-least : {a r w : ℕ} → r ≡ w → a ≤ r → T (leb a w)
-at-least {a} {r} {w} e h = le→leb a w (subst (λ z. a ≤ z) e h)
-
-pub not-at-least : {a r w : ℕ} → r ≡ w → r < a → T (leb a w) → ⊥
-not-at-least {a} {r} {w} e h t = not-le-of-lt h (subst (λ z. a ≤ z) (sym e) (leb→le a w t))
 
 -- a scan of the right array, past a span that is the sizes'
 pub right-scan : (b : List ℕ) (n limit from span k : ℕ) (r : Bool) → k ≡ span → r ≡ some n (λ i. leb limit (word b (5 + k + (from + i))))
