@@ -9,7 +9,8 @@ use Rattle.engine.specs.declared.answer.Answer.the-variants.{Refused, Stopped, 
 use Rattle.engine.specs.Answers.{Ran}
 use Rattle.console.specs.declared.FlyAnswer.{FlyAnswer}
 
--- The numbers of document 01 for each answer: "refused: 0 or the number; else finished is 1 or 0"
+-- The numbers of each answer, as include/flyrules.h has them: refused is 0 or document 01's number of the refusal; else finished
+-- is 1 or 0.
 abbrev pub runNumbers : ℕ → Counts → FlyAnswer
 runNumbers finished c = record { refused = 0; finished = finished; lines = c .lines; worked = c .worked; spent = c .spent }
 
