@@ -14,7 +14,7 @@ use Rattle.logic.specs.Theory.{Theory, kindOf, bodyOf, isStrict}
 use Rattle.logic.specs.Inference.{allHave, oneHas}
 use Rattle.logic.specs.Reading.{visits, visited, decided, decides, naming, costOf, taggedBy, systemOf}
 use Rattle.logic.specs.Plain.{plainSystem}
-use Rattle.logic.proofs.Tests.{test-cases, at-most, test-eq, someOf-intro, true-of, of-false, cond-true, cond-false, eq→eqb, and-intro, and-left, and-right, or-left, or-right, or-elim, isnt-intro, isnt-elim}
+use Rattle.logic.proofs.Tests.{test-cases, at-most, test-eq, someOf-intro, true-of, false-of, of-false, cond-true, cond-false, eq→eqb, and-intro, and-left, and-right, or-left, or-right, or-elim, isnt-intro, isnt-elim}
 use Rattle.logic.proofs.Lists.{member-here, member-there, member-cons-elim, member-nil, member-map, member-map-intro, member-pick, member-upto, member-upto-intro, distinct-pick, distinct-upto, pick-append, filled-intro}
 use Rattle.logic.proofs.Sums.{total-ext, total-next, total-add, weigh-true, weigh-false, count-upto}
 use Rattle.logic.proofs.Bodies.{all-moves, one-moves}
@@ -28,8 +28,8 @@ use Rattle.table.proofs.Sorted.{entries-rise, before-right}
 use Rattle.engine.specs.Memory.{view, useAt, has, sizeF, kindF, namingF, usesF, usesFrom, heldOf, Ready, extra, antecedents}
 use Rattle.engine.specs.Api.{adds}
 use Rattle.engine.specs.Deciding.{decidedBy, chargeBy}
-use Rattle.engine.proofs.Counting.{pick-all}
-use Rattle.engine.proofs.Following.{fires-defeasibly, out-defeasibly}
+use Rattle.engine.proofs.Counting.{and-true, pick-all}
+use Rattle.engine.proofs.Following.{or-yes, or-no, and-no, fires-defeasibly, out-defeasibly}
 use Rattle.engine.proofs.Marks.{kind-strict, or-false, not-isnt}
 
 -- a sum over a list
@@ -371,11 +371,23 @@ module _ (b : List ℕ) (s : Sizes) (m : List ℕ) (x : ℕ) (accepted : judgeme
 
 -- the tests of a rule as they are read
 module _ (w : ℕ → ℕ → ℕ) (t r : ℕ) where
-  pub read-decided : {a n f : ℕ} {o c x : Bool} → a ≡ w (has 2) r → n ≡ w sizeF r → f ≡ w (has 3) r → o ≡ (not (eqb a n) and eqb f 0)
-      → c ≡ (eqb t 3 or eqb (a + 1) n) → x ≡ (o and c) → x ≡ decidedBy w t r
-  read-decided ea en ef eo ec ex =
-      ex
-      ∙ ap₂ _and_ (eo ∙ ap₂ _and_ (not-isnt _ ∙ ap isnt (ap₂ eqb ea en)) (ap (λ f. eqb f 0) ef)) (ec ∙ ap (eqb t 3 or_) (ap₂ (λ a n. eqb (a + 1) n) ea en))
+  module _ {f : ℕ} (ef : f ≡ w (has 3) r) where
+    pub decided-refuted : (f ≡ 0 → ⊥) → false ≡ decidedBy w t r
+    decided-refuted h = and-no _ (false-of _ (λ u. h (ef ∙ eqb→eq _ _ (and-right _ _ u))))
+
+    module _ (z : f ≡ 0) {a n : ℕ} (ea : a ≡ w (has 2) r) (en : n ≡ w sizeF r) where
+      still : (isnt (eqb (w (has 2) r) (w sizeF r)) and eqb (w (has 3) r) 0) ≡ isnt (eqb a n)
+      still = ap₂ (λ x y. isnt x and y) (sym (ap₂ eqb ea en)) (true-of _ (eq→eqb _ _ (sym ef ∙ z))) ∙ and-true _
+
+      pub decided-by-one : t ≡ 3 → not (eqb a n) ≡ decidedBy w t r
+      decided-by-one e =
+          not-isnt (eqb a n) ∙ sym still
+          ∙ sym (and-true _) ∙ ap ((isnt (eqb (w (has 2) r) (w sizeF r)) and eqb (w (has 3) r) 0) and_) (or-yes _ (true-of _ (eq→eqb _ _ e)))
+
+      pub decided-by-all : (t ≡ 3 → ⊥) → eqb (a + 1) n ≡ decidedBy w t r
+      decided-by-all h =
+          test-eq (eqb (a + 1) n) (isnt (eqb a n) and eqb (a + 1) n) (λ u. and-intro _ _ (isnt-intro _ (λ v. let e : a + 1 ≡ n = eqb→eq _ _ u in let f : a ≡ n = eqb→eq _ _ v in omega arith)) u) (λ u. and-right _ _ u)
+          ∙ ap₂ _and_ (sym still) (ap₂ (λ x y. eqb (x + 1) y) ea en ∙ or-no _ (false-of _ (λ u. h (eqb→eq _ _ u))))
 
   pub read-definite : {k x : ℕ} → t < 2 → k ≡ w kindF r → x ≡ weigh (eqb k 0) 1 → x ≡ chargeBy w t r
   unfolding chargeBy

@@ -5,14 +5,14 @@ use mathlib.Core.Path.{_≡_, refl, sym, _∙_, ap, ap₂, subst}
 use mathlib.Core.Logic.{⊎-elim}
 use mathlib.Core.Bool.{Bool, true, false}
 use mathlib.Core.List.{List}
-use lib.Dec.{T, ltb, eqb, eqb→eq, eqb-refl, eqb·suc-suc}
+use lib.Dec.{T, ltb, eqb, eqb→eq, lt→ltb, eqb-refl, eqb·suc-suc}
 use lib.ListN.{length}
 use Rattle.logic.specs.Tests.{_and_, _or_, isnt, _implies_, every, some, weigh, countBelow}
 use Rattle.logic.specs.Theory.{Theory, complement, headOf, bodyOf, isFact, strictFor, supporter, attacker, superior}
 use Rattle.logic.specs.Inference as inference
 use Rattle.logic.specs.Inference.{allHave, oneHas}
 use Rattle.logic.specs.Reading.{taggedBy}
-use Rattle.logic.proofs.Tests.{test-cases, test-eq, and-intro, and-left, and-right, or-left, or-right, or-elim, isnt-intro, isnt-elim, implies-intro, implies-elim, every-intro, every-elim, some-intro, some-elim}
+use Rattle.logic.proofs.Tests.{test-cases, true-of, false-of, eq→eqb, test-eq, and-intro, and-left, and-right, or-left, or-right, or-elim, isnt-intro, isnt-elim, implies-intro, implies-elim, every-intro, every-elim, some-intro, some-elim}
 use Rattle.logic.proofs.Literals.{complement-complement, complement-below, join-div, join-mod}
 use Rattle.table.specs.declared.format.Sizes.{Sizes}
 use Rattle.table.specs.declared.judge.Judgement.the-variants.{Accepted}
@@ -22,6 +22,26 @@ use Rattle.table.proofs.Legal.{legal, limited, ranged, stronger-below}
 use Rattle.engine.specs.Memory.{view, has, rivalsF, beatenF, lostF, firingF, provedF, refutedF, strictF, supportF, outF, headedF, factF, counteredF, unopposedF, heldOf, Ready, fires, isOut, extra, antecedents}
 use Rattle.engine.specs.Deciding.{processed, definitelyBy, notDefinitelyBy, defeasiblyBy, notDefeasiblyBy}
 use Rattle.engine.proofs.Counting.{and-under, and-true, count-ext, count-some, count-every, pick-all, pick-one}
+
+-- what is left of a test once its first part is known
+pub or-yes : {a : Bool} (b : Bool) → a ≡ true → true ≡ (a or b)
+unfolding _or_
+or-yes b e = sym (ap (_or b) e)
+
+pub or-no : {a : Bool} (b : Bool) → a ≡ false → b ≡ (a or b)
+unfolding _or_
+or-no b e = sym (ap (_or b) e)
+
+pub and-yes : {a : Bool} (b : Bool) → a ≡ true → b ≡ (a and b)
+unfolding _and_
+and-yes b e = sym (ap (_and b) e)
+
+pub and-no : {a : Bool} (b : Bool) → a ≡ false → false ≡ (a and b)
+unfolding _and_
+and-no b e = sym (ap (_and b) e)
+
+above : (n : ℕ) → (n ≡ 0 → ⊥) → ltb 0 n ≡ true
+above n h = true-of _ (lt→ltb 0 n (omega arith))
 
 last-tag : (t : ℕ) → (t ≡ 0 → ⊥) → (t ≡ 1 → ⊥) → (t ≡ 2 → ⊥) → t < 4 → t ≡ 3
 last-tag t n0 n1 n2 h = omega arith
@@ -197,19 +217,44 @@ module _ (w : ℕ → ℕ → ℕ) (q : ℕ) where
       → r ≡ notDefinitelyBy w q
   read-not-definitely e1 e2 e3 e = e ∙ ap₂ _and_ (ap (λ f. eqb f 0) e3) (ap₂ eqb e1 e2)
 
-  pub read-defeasibly : {n f c k : ℕ} {p a z b r : Bool} → n ≡ complement q → f ≡ w firingF q → p ≡ processed w n 1 → a ≡ (ltb 0 f and p)
-      → c ≡ w counteredF n → k ≡ w headedF n → z ≡ processed w q 0 → b ≡ (a and eqb c k) → r ≡ (z or b) → r ≡ defeasiblyBy w q
-  read-defeasibly e ef ep ea ec ek ez eb er =
-      er
-      ∙ ap₂ _or_ ez
-      (eb ∙ ap₂ _and_ (ea ∙ ap₂ _and_ (ap (ltb 0) ef) (ep ∙ ap (λ i. processed w i 1) e)) (ap₂ eqb (ec ∙ ap (w counteredF) e) (ek ∙ ap (w headedF) e)))
+  -- +∂, part by part
+  module _ {p : Bool} (ep : p ≡ processed w q 0) where
+    pub defeasibly-definite : p ≡ true → true ≡ defeasiblyBy w q
+    defeasibly-definite t = or-yes _ (sym ep ∙ t)
 
-  pub read-not-defeasibly : {n o k u : ℕ} {p a b z r : Bool} → n ≡ complement q → o ≡ w outF q → k ≡ w supportF q → p ≡ processed w n 0
-      → a ≡ (eqb o k or p) → u ≡ w unopposedF n → b ≡ (a or ltb 0 u) → z ≡ processed w q 1 → r ≡ (z and b) → r ≡ notDefeasiblyBy w q
-  read-not-defeasibly e eo ek ep ea eu eb ez er =
-      er
-      ∙ ap₂ _and_ ez
-      (eb ∙ ap₂ _or_ (ea ∙ ap₂ _or_ (ap₂ eqb eo ek) (ep ∙ ap (λ i. processed w i 0) e)) (ap (ltb 0) (eu ∙ ap (w unopposedF) e)))
+    module _ (no : p ≡ false) {f : ℕ} (ef : f ≡ w firingF q) where
+      pub defeasibly-unsupported : f ≡ 0 → false ≡ defeasiblyBy w q
+      defeasibly-unsupported z = and-no _ (sym (and-no _ (ap (ltb 0) (sym ef ∙ z)))) ∙ or-no _ (sym ep ∙ no)
+
+      module _ (supported : f ≡ 0 → ⊥) {n : ℕ} {c : Bool} (en : n ≡ complement q) (ec : c ≡ processed w n 1) where
+        supports : (ltb 0 (w firingF q) and processed w (complement q) 1) ≡ c
+        supports = sym (and-yes _ (ap (ltb 0) (sym ef) ∙ above f supported)) ∙ ap (λ i. processed w i 1) (sym en) ∙ sym ec
+
+        pub defeasibly-opposed : c ≡ false → false ≡ defeasiblyBy w q
+        defeasibly-opposed z = and-no _ (supports ∙ z) ∙ or-no _ (sym ep ∙ no)
+
+        pub defeasibly-countered : c ≡ true → {a b : ℕ} → a ≡ w counteredF n → b ≡ w headedF n → eqb a b ≡ defeasiblyBy w q
+        defeasibly-countered y ea eb = ap₂ eqb (ea ∙ ap (w counteredF) en) (eb ∙ ap (w headedF) en) ∙ and-yes _ (supports ∙ y) ∙ or-no _ (sym ep ∙ no)
+
+  -- −∂, part by part
+  module _ {p : Bool} (ep : p ≡ processed w q 1) where
+    pub not-defeasibly-open : p ≡ false → false ≡ notDefeasiblyBy w q
+    not-defeasibly-open z = and-no _ (sym ep ∙ z)
+
+    module _ (yes : p ≡ true) {o k : ℕ} (eo : o ≡ w outF q) (ek : k ≡ w supportF q) where
+      pub not-defeasibly-unsupported : o ≡ k → true ≡ notDefeasiblyBy w q
+      not-defeasibly-unsupported e =
+          or-yes _ (sym (or-yes _ (true-of _ (eq→eqb _ _ (sym eo ∙ e ∙ ek))))) ∙ and-yes _ (sym ep ∙ yes)
+
+      module _ (other : o ≡ k → ⊥) {n : ℕ} {c : Bool} (en : n ≡ complement q) (ec : c ≡ processed w n 0) where
+        refuted : (eqb (w outF q) (w supportF q) or processed w (complement q) 0) ≡ c
+        refuted = sym (or-no _ (false-of _ (λ t. other (eo ∙ eqb→eq _ _ t ∙ sym ek)))) ∙ ap (λ i. processed w i 0) (sym en) ∙ sym ec
+
+        pub not-defeasibly-refuted : c ≡ true → true ≡ notDefeasiblyBy w q
+        not-defeasibly-refuted y = or-yes _ (refuted ∙ y) ∙ and-yes _ (sym ep ∙ yes)
+
+        pub not-defeasibly-beaten : c ≡ false → {u : ℕ} → u ≡ w unopposedF n → ltb 0 u ≡ notDefeasiblyBy w q
+        not-defeasibly-beaten z eu = ap (ltb 0) (eu ∙ ap (w unopposedF) en) ∙ or-no _ (refuted ∙ z) ∙ and-yes _ (sym ep ∙ yes)
 
 -- an accepted table's literals are below 1,024
 pub small-literal : (b : List ℕ) (s : Sizes) (q : ℕ) → judgementOf b ≡ Accepted s → q < 2 * s .atoms → q < 1024

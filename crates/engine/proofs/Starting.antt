@@ -13,10 +13,13 @@ use Rattle.logic.specs.Tests.{_and_, isnt, pick}
 use Rattle.logic.specs.Theory.{bodyOf}
 use Rattle.logic.proofs.Tests.{test-cases, cond-false, of-false, and-left, and-right, lt-suc-cases}
 use Rattle.table.specs.declared.format.Sizes.{Sizes}
+use Rattle.table.specs.declared.judge.Judgement.the-variants.{Accepted}
 use Rattle.table.specs.Format.{theoryIn}
+use Rattle.table.specs.Refusals.{judgementOf}
 use Rattle.engine.specs.Memory.{view, has, sizeF, extra, heldOf, writtenOf}
 use Rattle.engine.specs.Api.{Kept, Visited, Prepared}
 use Rattle.engine.specs.Indexing.{Low, Started}
+use Rattle.engine.proofs.Accepted.{Asks}
 use Rattle.engine.proofs.Views.{view-in}
 use Rattle.engine.proofs.Growth.{kept-none, kept-then}
 
@@ -54,13 +57,17 @@ module _ (k : ℕ) (big : k ≡ 32768) (m n : List ℕ) (h : k ≤ length m) (e 
 
 -- a turn over the rules
 module _ (b : List ℕ) (s : Sizes) where
-  pub visit-room : (t r : ℕ) {m n : List ℕ} → Started (theoryIn b s) r m n → r < s .rules → t < 4 → view n (has t) r < view n sizeF r
+  visit-room : (t r : ℕ) {m n : List ℕ} → Started (theoryIn b s) r m n → r < s .rules → t < 4 → view n (has t) r < view n sizeF r
   unfolding theoryIn
   visit-room t r k h l = omega (arith, k .left t r l (omega arith), k .standing .index .sizes r h)
 
-  pub visit-again : (r : ℕ) {m n o : List ℕ} → Started (theoryIn b s) r m n → Visited (theoryIn b s) 0 r n o → r < s .rules → view o (has 2) r < view o sizeF r
-  unfolding theoryIn
-  visit-again r k v h = omega (arith, visit-room 2 r k h (omega arith), v .others 2 r (omega arith) (λ e _. absurd (omega arith)), v .sizes r)
+  module _ (r : ℕ) {m n : List ℕ} (e : judgementOf b ≡ Accepted s) (k : Started (theoryIn b s) r m n) (h : r < s .rules) where
+    pub first-asks : Asks b s n r 0
+    first-asks = (e, k .standing, h, omega arith, visit-room 0 r k h (omega arith))
+
+    pub second-asks : {o : List ℕ} → Visited (theoryIn b s) 0 r n o → Asks b s o r 2
+    second-asks v =
+        (e, v .standing, h, omega arith, omega (arith, visit-room 2 r k h (omega arith), v .others 2 r (omega arith) (λ f _. absurd (omega arith)), v .sizes r))
 
   module _ (r : ℕ) {m n o p : List ℕ} (k : Started (theoryIn b s) r m n) (v : Visited (theoryIn b s) 0 r n o) (w : Visited (theoryIn b s) 2 r o p) where
     elsewhere : (t i : ℕ) → t < 4 → (i ≡ r → ⊥) → view p (has t) i ≡ view n (has t) i
@@ -89,6 +96,9 @@ module _ (b : List ℕ) (s : Sizes) where
 
   pub started-all : {m n : List ℕ} (i k : ℕ) → i ≤ k → k ≤ i → Started (theoryIn b s) i m n → Started (theoryIn b s) k m n
   started-all {m} {n} i k h l g = subst (λ z. Started (theoryIn b s) z m n) (le-antisymm h l) g
+
+  pub started-on : {m n o : List ℕ} (i k : ℕ) → Started (theoryIn b s) i m n → Started (theoryIn b s) k n o → Started (theoryIn b s) k m o
+  started-on i k g h = record { standing = h .standing; done = h .done; left = h .left; marks = h .marks; kept = kept-then (g .kept) (h .kept) }
 
   pub started-again : {m n : List ℕ} (i : ℕ) → Started (theoryIn b s) i m n → Started (theoryIn b s) i n n
   started-again {m} {n} i k = record { standing = k .standing; done = k .done; left = k .left; marks = k .marks; kept = kept-none n }

@@ -10,14 +10,14 @@ use mathlib.Core.List.{List, [], _∷_, _++_, append-assoc, map}
 use lib.Dec.{T, eqb, eqb→eq, eqb-refl}
 use lib.ListN.{length, set, take, drop, length-append, length-set}
 use lib.Seq.{length-take-le, take-suc-set, drop-set-lt, drop-drop}
-use Rattle.logic.specs.Tests.{_and_, _or_, member, distinct, upto}
+use Rattle.logic.specs.Tests.{_and_, _or_, isnt, member, distinct, upto}
 use Rattle.logic.specs.Theory.{Theory, proper, complement}
 use Rattle.logic.specs.Inference.{follows}
 use Rattle.logic.specs.System.{System, held, derivation}
 use Rattle.logic.specs.Worklist.{put, grow}
 use Rattle.logic.specs.Reading.{taggedBy, systemOf, withTags, conclusion}
 use Rattle.logic.specs.Plain.{plainSystem}
-use Rattle.logic.proofs.Tests.{of-true, of-false, test-eq, and-intro, and-left, and-right, or-left, or-right, or-elim, isnt-intro, isnt-elim}
+use Rattle.logic.proofs.Tests.{test-cases, false-of, of-true, of-false, test-eq, and-intro, and-left, and-right, or-left, or-right, or-elim, isnt-intro, isnt-elim}
 use Rattle.logic.proofs.Lists.{member-snoc, member-left, member-last, distinct-snoc}
 use Rattle.logic.proofs.Literals.{join-div, join-mod}
 use Rattle.logic.proofs.Derivations.{monotone, derivation-snoc, derives-all-below}
@@ -202,35 +202,57 @@ module _ (d : Theory) where
         kept = kept-on m m′ m″ (f .kept) (g .kept);
       }
 
+-- one conclusion was tried: there are as many lines as before and the same are written, or it is written
+module _ (d : Theory) (m l m′ l′ : List ℕ) (n n′ x : ℕ) (g : Logged d m l n) (f : Tried d (x ∷ []) m l n m′ l′ n′) where
+  abbrev goes : Bool
+  goes = plainSystem d .infers (heldOf m) x and isnt (member x (take n l))
+
+  lines-now : take n′ l′ ≡ put goes (take n l) x
+  unfolding grow
+  lines-now = f .lines
+
+  counted : n′ ≡ length (put goes (take n l) x)
+  counted = sym (length-take-le n′ l′ (f .logged .inside)) ∙ ap length lines-now
+
+  pub still-written : n′ ≡ n → (y : ℕ) → writtenOf m′ y ≡ writtenOf m y
+  still-written e y = f .logged .written y ∙ ap (member y) same ∙ sym (g .written y)
+    where
+      more : T goes → ⊥
+      more t =
+          absurd
+          (omega (arith, counted, ap length (put-adds goes (take n l) x t), length-append (take n l) (x ∷ []), length-take-le n l (g .inside)))
+
+      same : take n′ l′ ≡ take n l
+      same = lines-now ∙ put-stays goes (take n l) x more
+
+  pub now-written : (n′ ≡ n → ⊥) → T (writtenOf m′ x)
+  now-written h =
+      ⊎-elim (λ t. subst T (sym (f .logged .written x ∙ ap (member x) (lines-now ∙ put-adds goes (take n l) x t))) (member-last (take n l) x))
+      (λ u. absurd (h (counted ∙ ap length (put-stays goes (take n l) x u) ∙ length-take-le n l (g .inside)))) (test-cases goes)
+
 -- Tag t of literal q of an accepted table.
 module _ (b : List ℕ) (s : Sizes) (e : judgementOf b ≡ Accepted s) (q t : ℕ) (l : q < 2 * s .atoms) (k : t < 4) where
-  pub small-conclusion : 4 * q + t < 4096
-  small-conclusion = omega (arith, few b s e .atoms)
-
   small-here : 4 * q + t < 8 * theoryIn b s .atoms
   small-here = omega (arith, atoms-in b s)
 
   module _ (mem log : List ℕ) (n : ℕ) (g : Logged (theoryIn b s) mem log n) where
-    pub skips-written : (r : Bool) → r ≡ writtenOf mem (4 * q + t) → r ≡ true → Tried (theoryIn b s) ((4 * q + t) ∷ []) mem log n mem log n
-    skips-written r f h = skips (theoryIn b s) (proper-in b s e) mem log n (4 * q + t) g (λ _. of-true _ (sym (g .written (4 * q + t)) ∙ sym f ∙ h))
-
     pub skips-unproved : (r : Bool) → r ≡ follows (theoryIn b s) (taggedBy 4 (heldOf mem)) q t → r ≡ false → Tried (theoryIn b s) ((4 * q + t) ∷ []) mem log n mem log n
     skips-unproved r f h =
         skips (theoryIn b s) (proper-in b s e) mem log n (4 * q + t) g
         (λ u. absurd (of-false _ (infers-at (theoryIn b s) (heldOf mem) q t k ∙ sym f ∙ h) u))
 
-    module _ (v : Bool) (fv : v ≡ writtenOf mem (4 * q + t)) (hv : v ≡ false) (r : Bool) (fr : r ≡ follows (theoryIn b s) (taggedBy 4 (heldOf mem)) q t) (hr : r ≡ true) where
+    module _ (new : writtenOf mem (4 * q + t) ≡ false) (r : Bool) (fr : r ≡ follows (theoryIn b s) (taggedBy 4 (heldOf mem)) q t) (hr : r ≡ true) where
       proved : T (plainSystem (theoryIn b s) .infers (heldOf mem) (4 * q + t))
       proved = of-true _ (infers-at (theoryIn b s) (heldOf mem) q t k ∙ sym fr ∙ hr)
 
       pub room-for : (n < length log) × (n < 2048)
       room-for = (
-        fits-log (theoryIn b s) (proper-in b s e) mem log n (4 * q + t) g small-here (sym fv ∙ hv) proved,
-        omega (arith, fits-line (theoryIn b s) (proper-in b s e) mem log n (4 * q + t) g small-here (sym fv ∙ hv) proved, atoms-in b s, few b s e .atoms),
+        fits-log (theoryIn b s) (proper-in b s e) mem log n (4 * q + t) g small-here new proved,
+        omega (arith, fits-line (theoryIn b s) (proper-in b s e) mem log n (4 * q + t) g small-here new proved, atoms-in b s, few b s e .atoms),
       )
 
       pub writes-line : (mem′ : List ℕ) → Wrote (theoryIn b s) (4 * q + t) mem mem′ → Tried (theoryIn b s) ((4 * q + t) ∷ []) mem log n mem′ (set log n (4 * q + t)) (n + 1)
-      writes-line = writes (theoryIn b s) (proper-in b s e) mem log n (4 * q + t) g small-here (sym fv ∙ hv) proved
+      writes-line = writes (theoryIn b s) (proper-in b s e) mem log n (4 * q + t) g small-here new proved
 
 -- The conclusions of two lists of literals, and of one literal.
 pub withTags-append : (n : ℕ) (qs rs : List ℕ) → withTags n (qs ++ rs) ≡ withTags n qs ++ withTags n rs
@@ -243,36 +265,42 @@ withTags-append n (q ∷ qs) rs =
 pub tried-same : {d : Theory} {cs ds m l m′ l′ : List ℕ} {n n′ : ℕ} → cs ≡ ds → Tried d cs m l n m′ l′ n′ → Tried d ds m l n m′ l′ n′
 tried-same {d} {cs} {ds} {m} {l} {m′} {l′} {n} {n′} e f = subst (λ k. Tried d k m l n m′ l′ n′) e f
 
-pub tried-tags : {d : Theory} {m0 l0 m1 l1 m2 l2 m3 l3 m4 l4 : List ℕ} {n0 n1 n2 n3 n4 : ℕ} (q : ℕ) → Tried d ((4 * q + 0) ∷ []) m0 l0 n0 m1 l1 n1
-    → Tried d ((4 * q + 1) ∷ []) m1 l1 n1 m2 l2 n2 → Tried d ((4 * q + 2) ∷ []) m2 l2 n2 m3 l3 n3 → Tried d ((4 * q + 3) ∷ []) m3 l3 n3 m4 l4 n4
-    → Tried d (withTags 4 (q ∷ [])) m0 l0 n0 m4 l4 n4
+pub tried-tags : {d : Theory} {m0 l0 m1 l1 m2 l2 : List ℕ} {n0 n1 n2 : ℕ} (q : ℕ) → Tried d ((4 * q + 0) ∷ (4 * q + (0 + 1)) ∷ []) m0 l0 n0 m1 l1 n1
+    → Tried d ((4 * q + 2) ∷ (4 * q + (2 + 1)) ∷ []) m1 l1 n1 m2 l2 n2 → Tried d (withTags 4 (q ∷ [])) m0 l0 n0 m2 l2 n2
 unfolding withTags upto
-tried-tags {d} q f g h k = tried-on d (tried-on d (tried-on d f g) h) k
+tried-tags {d} q f g = tried-on d f g
 
--- one of each two opposite tags is written
-pub literal-settled : (b : List ℕ) (s : Sizes) → judgementOf b ≡ Accepted s → (q : ℕ) → q < 2 * s .atoms → (mem log : List ℕ) (n : ℕ) → Logged (theoryIn b s) mem log n → {u v w : Bool}
-    → u ≡ (writtenOf mem (4 * q + 0) or writtenOf mem (4 * q + (0 + 1))) → v ≡ (writtenOf mem (4 * q + 2) or writtenOf mem (4 * q + (2 + 1))) → w ≡ (u and v) → w ≡ true
-    → Tried (theoryIn b s) (withTags 4 (q ∷ [])) mem log n mem log n
-literal-settled b s e q l mem log n g {u} {v} {w} eu ev ew h =
-    tried-tags q (skip (4 * q + 0) (4 * q + 1) (omega arith) (omega arith) definite)
-    (skip (4 * q + 1) (4 * q + 0) (omega arith) (omega arith) (swap definite))
-    (skip (4 * q + 2) (4 * q + 3) (omega arith) (omega arith) defeasible)
-    (skip (4 * q + 3) (4 * q + 2) (omega arith) (omega arith) (swap defeasible))
-  where
-    test : T (u and v)
-    test = of-true _ (sym ew ∙ h)
+-- A tag and its opposite, of an accepted table: of the two only one is ever written.
+module _ (b : List ℕ) (s : Sizes) (e : judgementOf b ≡ Accepted s) (q t : ℕ) (l : q < 2 * s .atoms) (k : t < 3) (even : t % 2 ≡ 0) where
+  abbrev first : ℕ
+  first = 4 * q + t
 
-    definite : T (writtenOf mem (4 * q + 0)) ⊎ T (writtenOf mem (4 * q + 1))
-    definite = or-elim _ _ (subst T eu (and-left _ _ test))
+  abbrev second : ℕ
+  second = 4 * q + (t + 1)
 
-    defeasible : T (writtenOf mem (4 * q + 2)) ⊎ T (writtenOf mem (4 * q + 3))
-    defeasible = or-elim _ _ (subst T ev (and-right _ _ test))
+  module _ (mem log : List ℕ) (n : ℕ) (g : Logged (theoryIn b s) mem log n) where
+    skip-first : T (writtenOf mem first) ⊎ T (writtenOf mem second) → Tried (theoryIn b s) (first ∷ []) mem log n mem log n
+    skip-first = skips-settled (theoryIn b s) (proper-in b s e) mem log n first second g (omega (arith, atoms-in b s)) (omega arith)
 
-    swap : {A B : Type 0} → A ⊎ B → B ⊎ A
-    swap = ⊎-elim inr inl
+    skip-second : T (writtenOf mem second) ⊎ T (writtenOf mem first) → Tried (theoryIn b s) (second ∷ []) mem log n mem log n
+    skip-second = skips-settled (theoryIn b s) (proper-in b s e) mem log n second first g (omega (arith, atoms-in b s)) (omega arith)
 
-    skip : (x y : ℕ) → x < 8 * s .atoms → y ≡ complement x → T (writtenOf mem x) ⊎ T (writtenOf mem y) → Tried (theoryIn b s) (x ∷ []) mem log n mem log n
-    skip x y k f = skips-settled (theoryIn b s) (proper-in b s e) mem log n x y g (omega (arith, k, atoms-in b s)) f
+    module _ {u : Bool} (eu : u ≡ (writtenOf mem first or writtenOf mem second)) where
+      pub settled : u ≡ true → Tried (theoryIn b s) (first ∷ second ∷ []) mem log n mem log n
+      settled h =
+          let w = or-elim _ _ (of-true _ (sym eu ∙ h)) in tried-on (theoryIn b s) (skip-first w) (skip-second (⊎-elim inr inl w))
+
+      pub first-open : u ≡ false → writtenOf mem first ≡ false
+      first-open h = false-of _ (λ w. of-false _ (sym eu ∙ h) (or-left _ _ w))
+
+      pub second-open : u ≡ false → (mem′ log′ : List ℕ) (n′ : ℕ) → Tried (theoryIn b s) (first ∷ []) mem log n mem′ log′ n′ → n′ ≡ n → writtenOf mem′ second ≡ false
+      second-open h mem′ log′ n′ f c =
+          still-written (theoryIn b s) mem log mem′ log′ n n′ first g f c second ∙ false-of _ (λ w. of-false _ (sym eu ∙ h) (or-right _ _ w))
+
+  pub first-written : (mem log : List ℕ) (n : ℕ) → Logged (theoryIn b s) mem log n → (mem′ log′ : List ℕ) (n′ : ℕ) → Tried (theoryIn b s) (first ∷ []) mem log n mem′ log′ n′
+      → (n′ ≡ n → ⊥) → Tried (theoryIn b s) (first ∷ second ∷ []) mem log n mem′ log′ n′
+  first-written mem log n g mem′ log′ n′ f c =
+      tried-on (theoryIn b s) f (skip-second mem′ log′ n′ (f .logged) (inr (now-written (theoryIn b s) mem log mem′ log′ n n′ first g f c)))
 
 -- the literals of two lists tried one after the other
 pub tried-literals : {d : Theory} {m l m′ l′ m″ l″ : List ℕ} {n n′ n″ : ℕ} (qs rs : List ℕ) → Tried d (withTags 4 qs) m l n m′ l′ n′

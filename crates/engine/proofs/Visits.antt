@@ -9,12 +9,12 @@ use lib.Dec.{T, ltb, eqb, eqb→eq, eqb-refl, ltb→lt, lt→ltb}
 use lib.ListN.{length, set, length-set}
 use Rattle.logic.specs.Tests.{_and_, _or_, isnt, member, weigh, upto, pick}
 use Rattle.logic.specs.Theory.{Theory, Kind, strict, defeasible, defeater, isStrict, canSupport, kindOf, headOf, bodyOf}
-use Rattle.logic.proofs.Tests.{test-cases, of-true, of-false, test-eq, cond-true, cond-false, cond-cases, eq→eqb, and-intro, and-left, and-right, or-left, or-elim, isnt-intro, isnt-elim, lt-suc-cases, at-most}
+use Rattle.logic.proofs.Tests.{test-cases, true-of, of-true, of-false, test-eq, cond-true, cond-false, cond-cases, eq→eqb, and-intro, and-left, and-right, or-left, or-elim, isnt-intro, isnt-elim, lt-suc-cases, at-most}
 use Rattle.logic.proofs.Sums.{weigh-true, weigh-false}
 use Rattle.logic.proofs.Pigeon.{count-le}
 use Rattle.engine.specs.Memory.{view, useAt, has, headF, usesF, kindNumber, Indexed, Standing}
 use Rattle.engine.specs.Api.{Kept, Visited}
-use Rattle.engine.specs.Visits.{Sound, Grown, Raised, aim, reached, allowed, decidedFor, spoken, spokenTo, isFree, turned, Tallied, Open, Steady, Heard}
+use Rattle.engine.specs.Visits.{Sound, Grown, Raised, aim, hits, reached, allowed, decidedFor, spoken, spokenTo, isFree, turned, Tallied, Open, Steady, Decided, Heard}
 use Rattle.engine.proofs.Views.{view-set, view-set-index, view-set-field, use-set, rest-set}
 use Rattle.engine.proofs.Visiting.{tally-of, counted-of, tally-ext, tally-literal, Turns, turns-yes, turns-no, turns-and, turns-of, turns-or, reached-step, reached-same, decided-literal, decided-tag, decided-marks, grown-other}
 
@@ -266,15 +266,16 @@ module _ (d : Theory) (m m1 m2 m3 : List ℕ) (t r : ℕ) (lo : 2 ≤ t) (hi : t
       let c : f - 12 ≡ t = omega arith in ap₂ (λ x y. reached w x y) c (eqb→eq _ _ (and-right _ _ e))
 
   -- nothing to tell
-  pub own-done : (T (eqb (view m1 (4 + t) r) (aim t (view m 8 r)) and canSupport (kindOf d r)) → ⊥) → Visited d t r m m3
-  own-done n =
-      visited-of d m m1 m3 t r hi g steady
-      (standing-of d m3
-      (open-ext d m3 (decidedFor (view m1)) (decidedFor (view m3)) (spoken d (view m)) (spoken d (view m3)) (λ f x l k _. same f x l k)
-      (λ f i l k _ c. ⊎-elim
-      (λ e. own-pair (view m3) f i e ∙ last
-      ∙ turns-no _ _ _ turns (λ y. n (and-intro _ _ y (subst (λ z. T (canSupport (kindOf d z))) (eqb→eq _ _ (and-right _ _ e)) c))) ∙ sym (own-pair (view m) f i e))
-      (elsewhere f i l k) (test-cases (eqb f (12 + t) and eqb (d .pair i .stronger) r))) own-second))
+  pub own-done : (T (eqb (view m1 (4 + t) r) (aim t (view m 8 r)) and canSupport (kindOf d r)) → ⊥) → Steady m1 m3 × Standing d m3
+  own-done n = (
+    steady,
+    standing-of d m3
+        (open-ext d m3 (decidedFor (view m1)) (decidedFor (view m3)) (spoken d (view m)) (spoken d (view m3)) (λ f x l k _. same f x l k)
+        (λ f i l k _ c. ⊎-elim
+        (λ e. own-pair (view m3) f i e ∙ last
+        ∙ turns-no _ _ _ turns (λ y. n (and-intro _ _ y (subst (λ z. T (canSupport (kindOf d z))) (eqb→eq _ _ (and-right _ _ e)) c))) ∙ sym (own-pair (view m) f i e))
+        (elsewhere f i l k) (test-cases (eqb f (12 + t) and eqb (d .pair i .stronger) r))) own-second),
+  )
 
   -- r's pairs are to be told
   module _ (y : T (eqb (view m1 (4 + t) r) (aim t (view m 8 r)) and canSupport (kindOf d r))) where
@@ -293,8 +294,8 @@ module _ (d : Theory) (m m1 m2 m3 : List ℕ) (t r : ℕ) (lo : 2 ≤ t) (hi : t
         (test-cases (eqb f (12 + t) and eqb (d .pair i .stronger) r))) own-second
 
     -- and once they are, the visit is done
-    pub own-told : (n : List ℕ) → Steady m3 n → Open d n (decidedFor (view n)) (spoken d (view n)) → Visited d t r m n
-    own-told n e o = visited-of d m m1 n t r hi g (steady-trans steady e) (standing-of d n o)
+    pub own-told : (n : List ℕ) → Steady m3 n → Open d n (decidedFor (view n)) (spoken d (view n)) → Steady m1 n × Standing d n
+    own-told n e o = (steady-trans steady e, standing-of d n o)
 
 -- a word that was stored one greater, and none
 module _ (m : List ℕ) (f i : ℕ) where
@@ -365,6 +366,13 @@ next-small x t h k m m' a l e r u =
     let y : view m' (23 + t) h ≡ view m (23 + t) (view m headF x) = r .words .field (23 + t) h (λ i. omega arith) ∙ ap (view m (23 + t)) e in
     (omega arith, omega (arith, u .1), omega (arith, r .kept .size), omega (arith, u .2))
 
+-- one antecedent more, as it is read
+pub hits-read : (m : List ℕ) (r t : ℕ) (n : List ℕ) {size word goal : ℕ} → r < 1024 → t < 4 → 32768 ≤ length m → n ≡ set m (1024 * (4 + t) + r) (view m (4 + t) r + 1)
+    → size ≡ view m 8 r → word ≡ view n (4 + t) r → goal ≡ aim t size → Raised (4 + t) r 1 m n × (eqb word goal ≡ hits (view n) t r)
+hits-read m r t n a h l e f g j =
+    let u = raised-set m (4 + t) r n (omega arith) a l e in
+    (u, ap₂ eqb g (j ∙ ap (aim t) (f ∙ sym (u .words .field 8 r (λ i. omega arith)))))
+
 -- the count of a literal fits a word
 pub count-small : (d : Theory) → Sound d → (m m' : List ℕ) (f r h : ℕ) → Standing d m → r < d .rules → h ≡ view m headF r → 21 ≤ f → f < 27
     → length m' ≡ length m → view m' f h ≡ view m f h → (f < 28) × (h < 1024) × (32768 ≤ length m') × (view m' f h < 65535)
@@ -383,53 +391,95 @@ count-small d s m m' f r h st k e lo hi l v =
       ),
     )
 
--- the visits, of the values that the code has at hand
-module _ (d : Theory) (m m1 : List ℕ) (t r : ℕ) (k : r < d .rules) (b : r < 1024) (l : 32768 ≤ length m) (s : Standing d m) (g : view m (4 + t) r < view m 8 r)
-    (i : m1 ≡ set m (1024 * (4 + t) + r) (view m (4 + t) r + 1)) where
-  first-raised : t < 4 → Raised (4 + t) r 1 m m1
-  first-raised h = raised-set m (4 + t) r m1 (omega arith) b l i
+-- the visits, of the values that the code has at hand: one antecedent more has its tag
+module _ (d : Theory) (m m1 : List ℕ) (t r : ℕ) (h : t < 4) (k : r < d .rules) (s : Standing d m) (g : view m (4 + t) r < view m 8 r) (i : Raised (4 + t) r 1 m m1) where
+  hits-is : hits (view m1) t r ≡ eqb (view m1 (4 + t) r) (aim t (view m 8 r))
+  hits-is = ap (λ z. eqb (view m1 (4 + t) r) (aim t z)) (i .words .field 8 r (λ e. omega arith))
 
-  module _ {head size kind word goal : ℕ} (e : head ≡ view m 9 r) (e' : size ≡ view m 8 r) (e'' : kind ≡ view m 10 r) (f : word ≡ view m1 (4 + t) r) (f' : goal ≡ aim t size) where
+  -- it does not decide the rule
+  module _ {x : Bool} (a : x ≡ hits (view m1) t r) (n : x ≡ false) where
+    never : (b : Bool) → eqb (view m1 (4 + t) r) (aim t (view m 8 r)) and b ≡ false
+    unfolding _and_
+    never b = ap (_and b) (sym hits-is ∙ sym a ∙ n)
+
+    pub undecided : Visited d t r m m1
+    undecided =
+        ⊎-elim
+        (λ lo. let v = own-done d m m1 m1 m1 t r lo h k s g i (raised-no m1 (28 - t) (headOf d r) _ (never _)) (raised-no m1 (21 + t) (headOf d r) _ (never _)) (of-false _ (never _)) in
+        visited-of d m m1 m1 t r h i (v .0) (v .1))
+        (λ l. visit-definite d m m1 m1 t r l k s g i (raised-no m1 (21 + t) (headOf d r) _ (never _))) (at-most 2 t)
+
+  -- it decides the rule, for a definite tag
+  module _ {x : Bool} {head kind : ℕ} (a : x ≡ hits (view m1) t r) (y : x ≡ true) (e : head ≡ view m1 9 r) (e' : kind ≡ view m1 10 r) where
+    pub definite-small : Sound d → t < 2 → (21 + t < 28) × (head < 1024) × (32768 ≤ length m1) × (view m1 (21 + t) head < 65535)
+    definite-small o l =
+        count-small d o m m1 (21 + t) r head s k (e ∙ i .words .field 9 r (λ f. omega arith)) (omega arith) (omega arith) (i .kept .size) (i .words .field (21 + t) head (λ f. omega arith))
+
+    pub definite-end : (n : List ℕ) → t < 2 → Raised (21 + t) head (weigh (eqb kind 0) 1) m1 n → Visited d t r m n
+    unfolding _and_
+    definite-end n l u =
+        visit-definite d m m1 n t r l k s g i
+        (subst (λ z. Raised (21 + t) z (weigh (eqb (view m1 (4 + t) r) (aim t (view m 8 r)) and isStrict (kindOf d r)) 1) m1 n) (e ∙ i .words .field 9 r (λ f. omega arith) ∙ s .index .heads r k)
+        (subst (λ z. Raised (21 + t) head (weigh z 1) m1 n)
+        (ap (λ z. eqb z 0) (e' ∙ i .words .field 10 r (λ f. omega arith) ∙ s .index .kinds r k) ∙ strict-number (kindOf d r)
+        ∙ ap (_and isStrict (kindOf d r)) (sym y ∙ a ∙ hits-is)) u))
+
+-- a rule that is decided for a defeasible tag
+module _ (d : Theory) (m1 : List ℕ) (t r : ℕ) (lo : 2 ≤ t) (hi : t < 4) (k : r < d .rules) (c : Decided d t r m1) {head : ℕ} (e : head ≡ view m1 9 r) where
+  head-before : head ≡ view (c .before) 9 r
+  head-before = e ∙ c .raised .words .field 9 r (λ f. omega arith)
+
+  -- its counts fit a word
+  pub decide-small : Sound d → (f : ℕ) → 21 ≤ f → f < 27 → (f < 28) × (head < 1024) × (32768 ≤ length m1) × (view m1 f head < 65535)
+  decide-small o f l u =
+      count-small d o (c .before) m1 f r head (c .standing) k head-before l u (c .raised .kept .size) (c .raised .words .field f head (λ j. omega arith))
+
+  pub decide-small-next : Sound d → {m2 : List ℕ} {n : ℕ} → Raised (28 - t) head n m1 m2
+      → (21 + t < 28) × (head < 1024) × (32768 ≤ length m2) × (view m2 (21 + t) head < 65535)
+  decide-small-next o u =
+      let w = decide-small o (21 + t) (omega arith) (omega arith) in
+      (w .0, w .1, omega (arith, w .2, u .kept .size), omega (arith, w .3, u .words .field (21 + t) head (λ e. omega arith)))
+
+  module _ {kind : ℕ} (e' : kind ≡ view m1 10 r) {x : Bool} (a : x ≡ isFree (view m1) t r) (m2 m3 : List ℕ) (u : Raised (28 - t) head (weigh x 1) m1 m2)
+      (u' : Raised (21 + t) head (weigh (ltb kind 2) 1) m2 m3) where
+    abbrev m : List ℕ
+    m = c .before
+
     head-is : head ≡ headOf d r
-    head-is = e ∙ s .index .heads r k
+    head-is = head-before ∙ c .standing .index .heads r k
 
-    decided-is : eqb word goal ≡ eqb (view m1 (4 + t) r) (aim t (view m 8 r))
-    decided-is = ap₂ eqb f (f' ∙ ap (aim t) e')
+    both-is : (b : Bool) → b ≡ eqb (view m1 (4 + t) r) (aim t (view m 8 r)) and b
+    unfolding _and_
+    both-is b = ap (_and b) (sym (true-of _ (c .just)) ∙ hits-is d m m1 t r hi k (c .standing) (c .short) (c .raised))
 
-    pub definite-end : (n : List ℕ) {x : Bool} → t < 2 → x ≡ eqb word goal and eqb kind 0 → Raised (21 + t) head (weigh x 1) m1 n → Visited d t r m n
-    definite-end n h a u =
-        visit-definite d m m1 n t r h k s g (first-raised (omega arith))
-        (subst (λ z. Raised (21 + t) z (weigh (eqb (view m1 (4 + t) r) (aim t (view m 8 r)) and isStrict (kindOf d r)) 1) m1 n) head-is
-        (subst (λ z. Raised (21 + t) head (weigh z 1) m1 n) (a ∙ ap₂ (λ y z. y and z) decided-is (ap (λ z. eqb z 0) (e'' ∙ s .index .kinds r k) ∙ strict-number (kindOf d r))) u))
+    speaks-is : ltb kind 2 ≡ canSupport (kindOf d r)
+    speaks-is = ap (λ q. ltb q 2) (e' ∙ c .raised .words .field 10 r (λ f. omega arith) ∙ c .standing .index .kinds r k) ∙ support-number (kindOf d r)
 
-    module _ (m2 m3 : List ℕ) {x y z : Bool} (lo : 2 ≤ t) (hi : t < 4) (a : x ≡ isFree (view m1) t r) (c : y ≡ eqb word goal and x) (c' : z ≡ eqb word goal and ltb kind 2)
-        (u : Raised (28 - t) head (weigh y 1) m1 m2) (u' : Raised (21 + t) head (weigh z 1) m2 m3) where
-      free-raised : Raised (28 - t) (headOf d r) (weigh (eqb (view m1 (4 + t) r) (aim t (view m 8 r)) and isFree (view m1) t r) 1) m1 m2
-      free-raised =
-          subst (λ q. Raised (28 - t) q (weigh (eqb (view m1 (4 + t) r) (aim t (view m 8 r)) and isFree (view m1) t r) 1) m1 m2) head-is
-          (subst (λ q. Raised (28 - t) head (weigh q 1) m1 m2) (c ∙ ap₂ (λ y z. y and z) decided-is a) u)
+    free-raised : Raised (28 - t) (headOf d r) (weigh (eqb (view m1 (4 + t) r) (aim t (view m 8 r)) and isFree (view m1) t r) 1) m1 m2
+    free-raised =
+        subst (λ q. Raised (28 - t) q (weigh (eqb (view m1 (4 + t) r) (aim t (view m 8 r)) and isFree (view m1) t r) 1) m1 m2) head-is
+        (subst (λ q. Raised (28 - t) head (weigh q 1) m1 m2) (a ∙ both-is (isFree (view m1) t r)) u)
 
-      speaks-is : z ≡ eqb (view m1 (4 + t) r) (aim t (view m 8 r)) and canSupport (kindOf d r)
-      speaks-is = c' ∙ ap₂ (λ y z. y and z) decided-is (ap (λ q. ltb q 2) (e'' ∙ s .index .kinds r k) ∙ support-number (kindOf d r))
+    own-raised : Raised (21 + t) (headOf d r) (weigh (eqb (view m1 (4 + t) r) (aim t (view m 8 r)) and canSupport (kindOf d r)) 1) m2 m3
+    own-raised =
+        subst (λ q. Raised (21 + t) q (weigh (eqb (view m1 (4 + t) r) (aim t (view m 8 r)) and canSupport (kindOf d r)) 1) m2 m3) head-is
+        (subst (λ q. Raised (21 + t) head (weigh q 1) m2 m3) (speaks-is ∙ both-is (canSupport (kindOf d r))) u')
 
-      own-raised : Raised (21 + t) (headOf d r) (weigh (eqb (view m1 (4 + t) r) (aim t (view m 8 r)) and canSupport (kindOf d r)) 1) m2 m3
-      own-raised =
-          subst (λ q. Raised (21 + t) q (weigh (eqb (view m1 (4 + t) r) (aim t (view m 8 r)) and canSupport (kindOf d r)) 1) m2 m3) head-is
-          (subst (λ q. Raised (21 + t) head (weigh q 1) m2 m3) speaks-is u')
+    yes : ltb kind 2 ≡ true → T (eqb (view m1 (4 + t) r) (aim t (view m 8 r)) and canSupport (kindOf d r))
+    yes j = subst T (speaks-is ∙ both-is _) (of-true _ j)
 
-      yes : z ≡ true → T (eqb (view m1 (4 + t) r) (aim t (view m 8 r)) and canSupport (kindOf d r))
-      yes j = subst T speaks-is (of-true z j)
+    -- before the walk, after it, and without one
+    pub decide-walk : ltb kind 2 ≡ true → T (canSupport (kindOf d r)) × T (reached (view m3) t r) × Open d m3 (decidedFor (view m3)) (spokenTo d (view m3) t r 0)
+    decide-walk j = (
+      and-right _ _ (yes j),
+      own-reached d m m1 m2 m3 t r lo hi k (c .standing) (c .short) (c .raised) free-raised own-raised (yes j),
+      own-open d m m1 m2 m3 t r lo hi k (c .standing) (c .short) (c .raised) free-raised own-raised (yes j),
+    )
 
-      -- before the walk, after it, and without one
-      pub defeasible-walk : z ≡ true → T (canSupport (kindOf d r)) × T (reached (view m3) t r) × Open d m3 (decidedFor (view m3)) (spokenTo d (view m3) t r 0)
-      defeasible-walk j = (
-        and-right _ _ (yes j),
-        own-reached d m m1 m2 m3 t r lo hi k s g (first-raised hi) free-raised own-raised (yes j),
-        own-open d m m1 m2 m3 t r lo hi k s g (first-raised hi) free-raised own-raised (yes j),
-      )
+    pub decide-told : (n : List ℕ) → ltb kind 2 ≡ true → Steady m3 n × Open d n (decidedFor (view n)) (spoken d (view n)) → Steady m1 n × Standing d n
+    decide-told n j o = own-told d m m1 m2 m3 t r lo hi k (c .standing) (c .short) (c .raised) free-raised own-raised (yes j) n (o .0) (o .1)
 
-      pub defeasible-told : (n : List ℕ) → z ≡ true → Steady m3 n × Open d n (decidedFor (view n)) (spoken d (view n)) → Visited d t r m n
-      defeasible-told n j o = own-told d m m1 m2 m3 t r lo hi k s g (first-raised hi) free-raised own-raised (yes j) n (o .0) (o .1)
-
-      pub defeasible-end : z ≡ false → Visited d t r m m3
-      defeasible-end j = own-done d m m1 m2 m3 t r lo hi k s g (first-raised hi) free-raised own-raised (λ v. of-false z j (subst T (sym speaks-is) v))
+    pub decide-end : ltb kind 2 ≡ false → Steady m1 m3 × Standing d m3
+    decide-end j =
+        own-done d m m1 m2 m3 t r lo hi k (c .standing) (c .short) (c .raised) free-raised own-raised
+        (λ v. of-false _ j (subst T (sym (speaks-is ∙ both-is _)) v))

@@ -4,7 +4,7 @@ use Prim.Native.Nat.{ℕ, _+_, _-_, _*_, _%_, _≤_, _<_}
 use mathlib.Core.Path.{_≡_}
 use mathlib.Core.Bool.{Bool, true, cond}
 use mathlib.Core.List.{List}
-use lib.Dec.{ltb, eqb}
+use lib.Dec.{T, ltb, eqb}
 use lib.ListN.{length}
 use Rattle.logic.specs.Tests.{_and_, _or_, isnt, member, countBelow, weigh, upto, pick}
 use Rattle.logic.specs.Theory.{Theory, Kind, isStrict, canSupport, kindOf, headOf, bodyOf}
@@ -32,6 +32,10 @@ pub record Raised (f i k : ℕ) (m n : List ℕ) : Type 0 where
 -- the word at which a rule has tag t for all its antecedents (an even tag), or for one (an odd tag); and whether it has
 unfoldable pub aim : ℕ → ℕ → ℕ
 aim t size = cond (eqb (t % 2) 0) size 1
+
+-- whether the word of rule r and tag t is just there
+abbrev pub hits : (ℕ → ℕ → ℕ) → ℕ → ℕ → Bool
+hits w t r = eqb (w (has t) r) (aim t (w sizeF r))
 
 unfoldable pub reached : (ℕ → ℕ → ℕ) → ℕ → ℕ → Bool
 reached w t r = cond (eqb (t % 2) 0) (fires w t r) (isOut w t r)
@@ -77,6 +81,14 @@ pub record Open (d : Theory) (m : List ℕ) (p b : ℕ → ℕ → Bool) : Type 
 pub record Steady (m n : List ℕ) : Type 0 where
   pub low : (f i : ℕ) → f < 14 → view n f i ≡ view m f i
   pub kept : Kept m n
+
+-- a visit with tag t has decided rule r, and no count tells it yet
+pub record Decided (d : Theory) (t r : ℕ) (m : List ℕ) : Type 0 where
+  pub before : List ℕ
+  pub standing : Standing d before
+  pub short : view before (has t) r < view before sizeF r
+  pub raised : Raised (has t) r 1 before m
+  pub just : T (hits (view m) t r)
 
 -- rule x is told that a rule over it fires (t = 2), or is out (t = 3); that rule is a rival if q, the complement of its head, is x's
 -- head

@@ -1,6 +1,7 @@
 // Conclusions are tried: what follows from what is processed, and is not written, is written at the end of the log.
-ghost use Prim.Native.Nat.{_+_, _*_, _<_};
+ghost use Prim.Native.Nat.{_+_, _*_, _%_, _<_};
 ghost use mathlib.Core.Path.{_≡_};
+ghost use mathlib.Core.Bool.{false};
 ghost use mathlib.Core.List.{[], _∷_};
 ghost use lib.Dec.{eqb};
 ghost use Rattle.logic.specs.Tests.{_or_, isnt};
@@ -9,11 +10,10 @@ ghost use Rattle.logic.specs.Reading.{heads, visited, withTags};
 ghost use Rattle.table.specs.declared.judge.Judgement.the-variants.{Accepted};
 ghost use Rattle.table.specs.Format.{theoryIn};
 ghost use Rattle.table.specs.Refusals.{judgementOf};
+ghost use Rattle.engine.specs.Memory.{writtenOf};
 ghost use Rattle.engine.specs.Working.{Logged, Tried, headsIf, familyIf};
 use crate::memory::marks::is_settled;
-use crate::memory::marks::is_written;
 use crate::memory::marks::write;
-use crate::memory::tests::both;
 use crate::memory::tests::follows;
 use crate::memory::uses::end_use;
 use crate::memory::uses::first_use;
@@ -23,8 +23,8 @@ use crate::memory::words::load_use;
 use table::format::Literal;
 use table::format::Sizes;
 
-// Tag t of literal q. The number of lines is returned.
-fn try_conclusion(
+// Tag t of literal q, which is not written. The number of lines is returned.
+fn try_open(
     table: &[u8],
     s: Sizes,
     mem: &mut [u16],
@@ -33,13 +33,10 @@ fn try_conclusion(
     q: u16,
     t: u16,
 ) -> u32
-    requires { ⌜ (judgementOf (now table) ≡ Accepted s) × (q < 2 * s .atoms) × (t < 4) × Logged (theoryIn (now table) s) (now mem) (now log) lines ⌝ }
+    requires { ⌜ (judgementOf (now table) ≡ Accepted s) × (q < 2 * s .atoms) × (t < 4) × Logged (theoryIn (now table) s) (now mem) (now log) lines × (writtenOf (now mem) (4 * q + t) ≡ false) ⌝ }
     ensures { λ r. ⌜ Tried (theoryIn (now (table .entry)) s) ((4 * q + t) ∷ []) (now (mem .entry)) (now (log .entry)) lines (now (mem .exit)) (now (log .exit)) r ⌝ }
 {
     let x = 4 * q + t;
-    if is_written(mem, x) {
-        return lines;
-    }
     if !follows(table, s, mem, x) {
         return lines;
     }
@@ -48,18 +45,30 @@ fn try_conclusion(
     lines + 1
 }
 
-// The four tags of a literal.
-fn try_tags(table: &[u8], s: Sizes, mem: &mut [u16], log: &mut [u16], lines: u32, q: u16) -> u32
-    requires { ⌜ (judgementOf (now table) ≡ Accepted s) × (q < 2 * s .atoms) × Logged (theoryIn (now table) s) (now mem) (now log) lines ⌝ }
-    ensures { λ r. ⌜ Tried (theoryIn (now (table .entry)) s) (withTags 4 (q ∷ [])) (now (mem .entry)) (now (log .entry)) lines (now (mem .exit)) (now (log .exit)) r ⌝ }
+// A tag of a literal and its opposite. Of the two only one is ever written, so nothing is tried once one of them is.
+fn try_opposites(
+    table: &[u8],
+    s: Sizes,
+    mem: &mut [u16],
+    log: &mut [u16],
+    lines: u32,
+    q: u16,
+    t: u16,
+) -> u32
+    requires { ⌜ (judgementOf (now table) ≡ Accepted s) × (q < 2 * s .atoms) × (t < 3) × (t % 2 ≡ 0) × Logged (theoryIn (now table) s) (now mem) (now log) lines ⌝ }
+    ensures { λ r. ⌜ Tried (theoryIn (now (table .entry)) s) ((4 * q + t) ∷ (4 * q + (t + 1)) ∷ []) (now (mem .entry)) (now (log .entry)) lines (now (mem .exit)) (now (log .exit)) r ⌝ }
 {
-    let a = try_conclusion(table, s, mem, log, lines, q, 0);
-    let b = try_conclusion(table, s, mem, log, a, q, 1);
-    let c = try_conclusion(table, s, mem, log, b, q, 2);
-    try_conclusion(table, s, mem, log, c, q, 3)
+    if is_settled(mem, q, t) {
+        return lines;
+    }
+    let n = try_open(table, s, mem, log, lines, q, t);
+    if n != lines {
+        return n;
+    }
+    try_open(table, s, mem, log, n, q, t + 1)
 }
 
-// The four tags of a literal. Of a tag and its opposite only one is ever written, so nothing is tried once one of each two is.
+// The four tags of a literal.
 pub fn try_literal(
     table: &[u8],
     s: Sizes,
@@ -71,12 +80,8 @@ pub fn try_literal(
     requires { ⌜ (judgementOf (now table) ≡ Accepted s) × (q < 2 * s .atoms) × Logged (theoryIn (now table) s) (now mem) (now log) lines ⌝ }
     ensures { λ r. ⌜ Tried (theoryIn (now (table .entry)) s) (withTags 4 (q ∷ [])) (now (mem .entry)) (now (log .entry)) lines (now (mem .exit)) (now (log .exit)) r ⌝ }
 {
-    let definite = is_settled(mem, q, 0);
-    let defeasible = is_settled(mem, q, 2);
-    if both(definite, defeasible) {
-        return lines;
-    }
-    try_tags(table, s, mem, log, lines, q)
+    let n = try_opposites(table, s, mem, log, lines, q, 0);
+    try_opposites(table, s, mem, log, n, q, 2)
 }
 
 // A literal and its complement.

@@ -20,9 +20,12 @@ kind-rest (suc zero) a b = absurd (b refl)
 kind-rest (suc (suc n)) a b = refl
 
 -- a word of the right array, read past a span that is the sizes'
+pub right-at : (b : List ℕ) (s : Sizes) (j span r : ℕ) → span ≡ spanOf s → r ≡ word b (5 + span + j) → r ≡ right b s j
+right-at b s j span r e f = f ∙ ap (λ k. word b (5 + k + j)) e
+
 pub right-read : (b : List ℕ) (s : Sizes) (from n i span r : ℕ) → i < n → span ≡ spanOf s → r ≡ word b (5 + span + (from + i)) → r ≡ rightIn b s from n i
 unfolding rightIn
-right-read b s from n i span r h e f = f ∙ ap (λ k. word b (5 + k + (from + i))) e ∙ sym (cond-true (ltb i n) (right b s (from + i)) 0 (lt→ltb i n h))
+right-read b s from n i span r h e f = right-at b s (from + i) span r e f ∙ sym (cond-true (ltb i n) (right b s (from + i)) 0 (lt→ltb i n h))
 
 -- a word within the bytes
 pub half-below : {i n : ℕ} → 2 * i + 2 ≤ n → i < n / 2

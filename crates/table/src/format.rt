@@ -4,7 +4,7 @@ ghost use Prim.Native.Nat.{_+_, _*_, _≤_, _<_};
 ghost use mathlib.Core.Path.{_≡_};
 ghost use lib.ListN.{length};
 ghost use Rattle.logic.specs.Theory.{complement, atom};
-ghost use Rattle.table.specs.Format.{word, sizesOf, spanOf, leftIn, rightIn, kindOf, factAt, ruleAt, entryAt, pairAt};
+ghost use Rattle.table.specs.Format.{word, sizesOf, spanOf, left, right, leftIn, rightIn, kindOf, factAt, ruleAt, entryAt, pairAt};
 
 // A literal: 2a says that atom a holds, 2a + 1 that it does not.
 pub struct Literal(pub u16);
@@ -157,14 +157,49 @@ fn kind_of(n: u16) -> Kind
     }
 }
 
+// The words of both arrays at one place.
+struct Words {
+    left: u16,
+    right: u16,
+}
+
+// At place j of a table that has the bytes its sizes say.
+fn words_within(table: &[u8], s: Sizes, j: usize) -> Words
+    requires { ⌜ (j < spanOf s) × (10 + 4 * spanOf s ≤ length (now table)) ⌝ }
+    ensures { λ r. ⌜ (r .left ≡ left (now (table .entry)) j) × (r .right ≡ right (now (table .entry)) s j) ⌝ }
+{
+    let span = s.span();
+    let left = word_within(table, 5 + j);
+    let right = word_within(table, 5 + span + j);
+    Words { left, right }
+}
+
+// The i-th of the n words of either array from a place on. Where the table has the bytes its sizes say, no index is tested.
+fn both_words(table: &[u8], s: Sizes, from: usize, n: u16, i: usize) -> Words
+    requires { ⌜ from + n ≤ spanOf s ⌝ }
+    ensures { λ r. ⌜ (r .left ≡ leftIn (now (table .entry)) from n i) × (r .right ≡ rightIn (now (table .entry)) s from n i) ⌝ }
+{
+    let span = s.span();
+    if i < n as usize {
+        if 10 + 4 * span <= table.len() {
+            return words_within(table, s, from + i);
+        }
+    }
+    let left = left_word(table, from, n, i);
+    let right = right_word(table, s, from, n, i);
+    Words { left, right }
+}
+
 // Rule r, without its body.
 pub fn read_rule(table: &[u8], s: Sizes, r: usize) -> Rule
     ensures { λ x. ⌜ x ≡ ruleAt (now (table .entry)) s r ⌝ }
 {
-    let from = s.facts as usize;
-    let kind = kind_of(left_word(table, from, s.rules, r));
-    let head = Literal(right_word(table, s, from, s.rules, r));
-    Rule { kind, head }
+    let words = both_words(table, s, s.facts as usize, s.rules, r);
+    let kind = kind_of(words.left);
+    Rule {
+        kind,
+        head: Literal(words.right),
+    }
 }
 
 // The i-th entry.
@@ -172,9 +207,20 @@ pub fn read_entry(table: &[u8], s: Sizes, i: usize) -> Entry
     ensures { λ r. ⌜ r ≡ entryAt (now (table .entry)) s i ⌝ }
 {
     let from = s.facts as usize + s.rules as usize;
-    let rule = left_word(table, from, s.entries, i);
-    let literal = Literal(right_word(table, s, from, s.entries, i));
-    Entry { rule, literal }
+    let words = both_words(table, s, from, s.entries, i);
+    Entry {
+        rule: words.left,
+        literal: Literal(words.right),
+    }
+}
+
+fn pair_of(words: Words) -> Pair
+    ensures { λ r. ⌜ (r .stronger ≡ words .left) × (r .weaker ≡ words .right) ⌝ }
+{
+    Pair {
+        stronger: words.left,
+        weaker: words.right,
+    }
 }
 
 // The i-th pair.
@@ -182,9 +228,7 @@ pub fn read_pair(table: &[u8], s: Sizes, i: usize) -> Pair
     ensures { λ r. ⌜ r ≡ pairAt (now (table .entry)) s i ⌝ }
 {
     let from = s.facts as usize + s.rules as usize + s.entries as usize;
-    let stronger = left_word(table, from, s.pairs, i);
-    let weaker = right_word(table, s, from, s.pairs, i);
-    Pair { stronger, weaker }
+    pair_of(both_words(table, s, from, s.pairs, i))
 }
 
 // The i-th pair of a table as long as its sizes say, if there is one.
@@ -193,8 +237,5 @@ pub(crate) fn pair_within(table: &[u8], s: Sizes, i: usize) -> Pair
     ensures { λ r. ⌜ r ≡ pairAt (now (table .entry)) s i ⌝ }
 {
     let from = s.facts as usize + s.rules as usize + s.entries as usize;
-    let right = 5 + s.span();
-    let stronger = word_within(table, 5 + (from + i));
-    let weaker = word_within(table, right + (from + i));
-    Pair { stronger, weaker }
+    pair_of(words_within(table, s, from + i))
 }

@@ -1,5 +1,5 @@
 // The memory of a table at its start, and the memory cleared.
-ghost use Prim.Native.Nat.{_≤_};
+ghost use Prim.Native.Nat.{_+_, _≤_, _<_};
 ghost use mathlib.Core.Path.{_≡_};
 ghost use mathlib.Core.List.{_++_};
 ghost use lib.ListN.{length, drop, replicate};
@@ -15,7 +15,8 @@ use crate::memory::listing::mark_facts;
 use crate::memory::listing::mark_firsts;
 use crate::memory::sorting::begin_uses;
 use crate::memory::sorting::place_uses;
-use crate::memory::visit::visit_defeasible;
+use crate::memory::visit::decide;
+use crate::memory::visit::reaches;
 use crate::memory::visit::visit_definite;
 use table::format::Sizes;
 
@@ -45,16 +46,27 @@ fn fill(table: &[u8], s: Sizes, mem: &mut [u16])
     place_uses(table, s, mem);
 }
 
-// Every rule has its one antecedent more, with +Δ and +∂.
+// Rule r has its one antecedent more, with +Δ and +∂. The second visit stands here in its two parts, and in `visit` too: of two calls
+// the compiler makes a function of `decide`, and what most visits do stays small.
+fn start_rule(table: &[u8], s: Sizes, mem: &mut [u16], r: usize)
+    requires { ⌜ (judgementOf (now table) ≡ Accepted s) × Started (theoryIn (now table) s) r (now mem) (now mem) × (r < s .rules) ⌝ }
+    ensures { λ _. ⌜ Started (theoryIn (now (table .entry)) s) (r + 1) (now (mem .entry)) (now (mem .exit)) ⌝ }
+{
+    visit_definite(table, s, mem, r, 0);
+    if !reaches(mem, r, 2) {
+        return;
+    }
+    decide(table, s, mem, r, 2);
+}
+
+// Every rule has its one antecedent more.
 fn start(table: &[u8], s: Sizes, mem: &mut [u16])
     requires { ⌜ (judgementOf (now table) ≡ Accepted s) × Started (theoryIn (now table) s) 0 (now mem) (now mem) ⌝ }
     ensures { λ _. ⌜ Started (theoryIn (now (table .entry)) s) (s .rules) (now (mem .entry)) (now (mem .exit)) ⌝ }
 {
     let mut r: u16 = 0;
     while r < s.rules {
-        let i = r as usize;
-        visit_definite(table, s, mem, i, 0);
-        visit_defeasible(table, s, mem, i, 2);
+        start_rule(table, s, mem, r as usize);
         r += 1;
     }
 }

@@ -12,13 +12,6 @@ use crate::memory::words::load;
 use crate::memory::words::store;
 use table::format::Sizes;
 
-pub fn is_written(mem: &[u16], x: u16) -> bool
-    requires { ⌜ (x < 4096) × (32768 ≤ length (now mem)) ⌝ }
-    ensures { λ r. ⌜ r ≡ writtenOf (now (mem .entry)) x ⌝ }
-{
-    load(mem, x as usize % 4, x as usize / 4) != 0
-}
-
 // Whether tag t of literal q is written, or tag t + 1.
 pub fn is_settled(mem: &[u16], q: u16, t: u16) -> bool
     requires { ⌜ (q < 1024) × (t < 3) × (32768 ≤ length (now mem)) ⌝ }

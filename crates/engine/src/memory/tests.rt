@@ -85,10 +85,17 @@ fn defeasibly(mem: &[u16], q: u16) -> bool
     ensures { λ r. ⌜ r ≡ defeasiblyBy (view (now (mem .entry))) q ⌝ }
 {
     let i = q as usize;
+    if is_processed(mem, i, 0) {
+        return true;
+    }
+    if load(mem, FIRING, i) == 0 {
+        return false;
+    }
     let n = other(q);
-    let fires = both(0 < load(mem, FIRING, i), is_processed(mem, n, 1));
-    let countered = load(mem, COUNTERED, n) == load(mem, HEADED, n);
-    either(is_processed(mem, i, 0), both(fires, countered))
+    if !is_processed(mem, n, 1) {
+        return false;
+    }
+    load(mem, COUNTERED, n) == load(mem, HEADED, n)
 }
 
 // −∂
@@ -97,11 +104,17 @@ fn not_defeasibly(mem: &[u16], q: u16) -> bool
     ensures { λ r. ⌜ r ≡ notDefeasiblyBy (view (now (mem .entry))) q ⌝ }
 {
     let i = q as usize;
+    if !is_processed(mem, i, 1) {
+        return false;
+    }
+    if load(mem, OUT, i) == load(mem, SUPPORT, i) {
+        return true;
+    }
     let n = other(q);
-    let unsupported = load(mem, OUT, i) == load(mem, SUPPORT, i);
-    let refuted = either(unsupported, is_processed(mem, n, 0));
-    let beaten = either(refuted, 0 < load(mem, UNOPPOSED, n));
-    both(is_processed(mem, i, 1), beaten)
+    if is_processed(mem, n, 0) {
+        return true;
+    }
+    0 < load(mem, UNOPPOSED, n)
 }
 
 // Whether a conclusion follows: the remainder by four picks the inference rule.
@@ -124,10 +137,15 @@ fn decides(mem: &[u16], r: usize, t: u16) -> bool
     requires { ⌜ (r < 1024) × (32768 ≤ length (now mem)) ⌝ }
     ensures { λ x. ⌜ x ≡ decidedBy (view (now (mem .entry))) t r ⌝ }
 {
+    if load(mem, HAS_REFUTED, r) != 0 {
+        return false;
+    }
     let proved = load(mem, HAS_PROVED, r) as u32;
     let size = load(mem, SIZE, r) as u32;
-    let open = both(proved != size, load(mem, HAS_REFUTED, r) == 0);
-    both(open, either(t == 3, proved + 1 == size))
+    if t == 3 {
+        return proved != size;
+    }
+    proved + 1 == size
 }
 
 fn weigh(test: bool, n: u16) -> u32

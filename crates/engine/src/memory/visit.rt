@@ -11,7 +11,7 @@ ghost use Rattle.table.specs.Format.{theoryIn};
 ghost use Rattle.table.specs.Refusals.{judgementOf};
 ghost use Rattle.engine.specs.Memory.{Standing, Ready, view, has, sizeF, headF, heldOf, writtenOf};
 ghost use Rattle.engine.specs.Api.{Visited, Added};
-ghost use Rattle.engine.specs.Visits.{Sound, Raised, aim, reached, decidedFor, spoken, spokenTo, isFree, turned, Open, Steady, Heard, Spread};
+ghost use Rattle.engine.specs.Visits.{Sound, Raised, aim, hits, reached, decidedFor, spoken, spokenTo, isFree, turned, Open, Steady, Decided, Heard, Spread};
 use crate::memory::fields::BEATEN;
 use crate::memory::fields::FIRST;
 use crate::memory::fields::HAS;
@@ -127,36 +127,42 @@ fn walk(table: &[u8], s: Sizes, mem: &mut [u16], r: usize, t: usize)
     }
 }
 
+// One antecedent more of rule r has tag t. Whether it decides the rule: all antecedents have an even tag now, or one has an odd tag.
+pub fn reaches(mem: &mut [u16], r: usize, t: usize) -> bool
+    requires { ⌜ (r < 1024) × (t < 4) × (32768 ≤ length (now mem)) × (view (now mem) (has t) r < view (now mem) sizeF r) ⌝ }
+    ensures { λ x. ⌜ Raised (has t) r 1 (now (mem .entry)) (now (mem .exit)) × (x ≡ hits (view (now (mem .exit))) t r) ⌝ }
+{
+    let size = load(mem, SIZE, r);
+    bump(mem, HAS + t, r);
+    load(mem, HAS + t, r) == aim(t, size)
+}
+
 // A visit with tag +Δ or −Δ.
 pub fn visit_definite(table: &[u8], s: Sizes, mem: &mut [u16], r: usize, t: usize)
     requires { ⌜ Sound (theoryIn (now table) s) × Standing (theoryIn (now table) s) (now mem) × (r < s .rules) × (t < 2) × (view (now mem) (has t) r < view (now mem) sizeF r) ⌝ }
     requires { ⌜ (r < 1024) × (32768 ≤ length (now mem)) ⌝ }
     ensures { λ _. ⌜ Visited (theoryIn (now (table .entry)) s) t r (now (mem .entry)) (now (mem .exit)) ⌝ }
 {
-    let size = load(mem, SIZE, r);
+    if !reaches(mem, r, t) {
+        return;
+    }
     let head = wide(load(mem, HEAD, r));
     let strict = load(mem, KIND, r) == 0;
-    bump(mem, HAS + t, r);
-    let decided = load(mem, HAS + t, r) == aim(t, size);
     // proved or refuted
-    bump_if(mem, 21 + t, head, both(decided, strict));
+    bump_if(mem, 21 + t, head, strict);
 }
 
-// A visit with tag +∂ or −∂.
-pub fn visit_defeasible(table: &[u8], s: Sizes, mem: &mut [u16], r: usize, t: usize)
-    requires { ⌜ Sound (theoryIn (now table) s) × Standing (theoryIn (now table) s) (now mem) × (r < s .rules) × (2 ≤ t) × (t < 4) × (view (now mem) (has t) r < view (now mem) sizeF r) ⌝ }
+// A visit with tag +∂ or −∂ that has decided rule r: the rule is counted, and a supporter tells the rules that it is over.
+pub fn decide(table: &[u8], s: Sizes, mem: &mut [u16], r: usize, t: usize)
+    requires { ⌜ Sound (theoryIn (now table) s) × Decided (theoryIn (now table) s) t r (now mem) × (r < s .rules) × (2 ≤ t) × (t < 4) ⌝ }
     requires { ⌜ (r < 1024) × (32768 ≤ length (now mem)) ⌝ }
-    ensures { λ _. ⌜ Visited (theoryIn (now (table .entry)) s) t r (now (mem .entry)) (now (mem .exit)) ⌝ }
+    ensures { λ _. ⌜ Steady (now (mem .entry)) (now (mem .exit)) × Standing (theoryIn (now (table .entry)) s) (now (mem .exit)) ⌝ }
 {
-    let size = load(mem, SIZE, r);
     let head = wide(load(mem, HEAD, r));
-    let kind = load(mem, KIND, r);
-    bump(mem, HAS + t, r);
-    let decided = load(mem, HAS + t, r) == aim(t, size);
+    let speaks = load(mem, KIND, r) < 2;
     let free = is_free(mem, r, t);
     // unopposed or countered
-    bump_if(mem, 28 - t, head, both(decided, free));
-    let speaks = both(decided, kind < 2);
+    bump_if(mem, 28 - t, head, free);
     // firing or out
     bump_if(mem, 21 + t, head, speaks);
     if speaks {
@@ -165,15 +171,18 @@ pub fn visit_defeasible(table: &[u8], s: Sizes, mem: &mut [u16], r: usize, t: us
 }
 
 // One antecedent more of rule r has tag t.
-fn visit(table: &[u8], s: Sizes, mem: &mut [u16], r: u16, t: u16)
+fn visit(table: &[u8], s: Sizes, mem: &mut [u16], r: usize, t: usize)
     requires { ⌜ (judgementOf (now table) ≡ Accepted s) × Standing (theoryIn (now table) s) (now mem) × (r < s .rules) × (t < 4) × (view (now mem) (has t) r < view (now mem) sizeF r) ⌝ }
     ensures { λ _. ⌜ Visited (theoryIn (now (table .entry)) s) t r (now (mem .entry)) (now (mem .exit)) ⌝ }
 {
     if t < 2 {
-        visit_definite(table, s, mem, wide(r), wide(t));
-    } else {
-        visit_defeasible(table, s, mem, wide(r), wide(t));
+        visit_definite(table, s, mem, r, t);
+        return;
     }
+    if !reaches(mem, r, t) {
+        return;
+    }
+    decide(table, s, mem, r, t);
 }
 
 // Every rule with literal p in its body is visited with tag t.
@@ -186,7 +195,7 @@ fn visit_uses(table: &[u8], s: Sizes, mem: &mut [u16], p: u16, t: u16)
     let mut k = first_use(mem, p);
     while k < end {
         let r = load_use(mem, k);
-        visit(table, s, mem, r, t);
+        visit(table, s, mem, wide(r), wide(t));
         k += 1;
     }
 }

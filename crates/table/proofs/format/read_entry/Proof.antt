@@ -12,16 +12,11 @@ cast-from-2 c = search needs
 add-from : tie.Need-add-from
 add-from c = search needs
 
-left-word-requires : tie.Need-left-word-requires
-left-word-requires c κs = search needs
-
-right-word-requires : tie.Need-right-word-requires
-right-word-requires c κs = search needs
+both-words-requires : tie.Need-both-words-requires
+both-words-requires c κs = search needs
 
 returns : tie.Need-returns
-returns c = λ i. record { rule = c .before .left-word .ensures i; literal = record { 0 = c .right-word .ensures i } }
+returns c = λ k. record { rule = (c .both-words .ensures .0) k; literal = record { 0 = (c .both-words .ensures .1) k } }
 
 pub read-entry-spec : {M : Type 1} → statement M
-read-entry-spec =
-    tie.close
-    (tie.spec cast-from cast-from-2 add-from left-word-requires right-word-requires returns)
+read-entry-spec = tie.close (tie.spec cast-from cast-from-2 add-from both-words-requires returns)

@@ -1,4 +1,5 @@
 -- `table::format::read_pair` meets its contract. Assumes nothing.
+use mathlib.Core.Path.{_∙_}
 use borrow.Author.Needs.{needs}
 use Rattle.table.proofs.format.read_pair.Statement.{statement}
 use Rattle.table.proofs.format.read_pair.Tie as tie
@@ -18,14 +19,14 @@ cast-from-3 c = search needs
 add-from-2 : tie.Need-add-from-2
 add-from-2 c = search needs
 
-left-word-requires : tie.Need-left-word-requires
-left-word-requires c κs = search needs
+both-words-requires : tie.Need-both-words-requires
+both-words-requires c κs = search needs
 
-right-word-requires : tie.Need-right-word-requires
-right-word-requires c κs = search needs
+pair-of-requires : tie.Need-pair-of-requires
+pair-of-requires c κs = search needs
 
 returns : tie.Need-returns
-returns c = λ i. record { stronger = c .before .left-word .ensures i; weaker = c .right-word .ensures i }
+returns c = λ k. record { stronger = ((c .pair-of .ensures .0) ∙ (c .before .both-words .ensures .0)) k; weaker = ((c .pair-of .ensures .1) ∙ (c .before .both-words .ensures .1)) k }
 
 pub read-pair-spec : {M : Type 1} → statement M
 read-pair-spec =
@@ -36,6 +37,6 @@ read-pair-spec =
     add-from
     cast-from-3
     add-from-2
-    left-word-requires
-    right-word-requires
+    both-words-requires
+    pair-of-requires
     returns)

@@ -5,21 +5,17 @@ use borrow.Author.Needs.{needs}
 use Rattle.table.proofs.format.read_rule.Statement.{statement}
 use Rattle.table.proofs.format.read_rule.Tie as tie
 
-cast-from : tie.Need-cast-from
-cast-from c = search needs
+cast-both-words : tie.Need-cast-both-words
+cast-both-words c = search needs
 
-left-word-requires : tie.Need-left-word-requires
-left-word-requires c κs = search needs
+both-words-requires : tie.Need-both-words-requires
+both-words-requires c κs = search needs
 
 kind-of-requires : tie.Need-kind-of-requires
 kind-of-requires c κs = search needs
 
-right-word-requires : tie.Need-right-word-requires
-right-word-requires c κs = search needs
-
 returns : tie.Need-returns
-returns c = λ i. record { kind = (c .before .kind-of .ensures ∙ ap kindOf (c .before .before .left-word .ensures)) i; head = record { 0 = c .right-word .ensures i } }
+returns c = λ k. record { kind = ((c .kind-of .ensures) ∙ ap kindOf (c .before .both-words .ensures .0)) k; head = record { 0 = (c .before .both-words .ensures .1) k } }
 
 pub read-rule-spec : {M : Type 1} → statement M
-read-rule-spec =
-    tie.close (tie.spec cast-from left-word-requires kind-of-requires right-word-requires returns)
+read-rule-spec = tie.close (tie.spec cast-both-words both-words-requires kind-of-requires returns)

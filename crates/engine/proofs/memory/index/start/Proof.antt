@@ -1,11 +1,9 @@
 -- `engine::memory::index::start` meets its contract. The loop's invariant: the rules passed have their one antecedent more. Assumes nothing.
 use Prim.Native.Nat.{_≤_, _-_}
 use native.Mathlib.Omega.{arith}
-use mathlib.Core.Path.{refl}
 use Rattle.table.specs.Format.{theoryIn}
 use Rattle.engine.specs.Indexing.{Started}
-use Rattle.engine.proofs.Accepted.{definite-asks, defeasible-asks}
-use Rattle.engine.proofs.Starting.{visit-room, visit-again, started-next, started-all}
+use Rattle.engine.proofs.Starting.{started-on, started-again, started-all}
 use borrow.Author.Needs.{needs}
 use Rattle.engine.proofs.memory.index.start.Statement.{statement}
 use Rattle.engine.proofs.memory.index.start.Tie as tie
@@ -19,14 +17,11 @@ abbrev μ-loop : tie.MeasureT-loop
 loop-holds : tie.Need-loop-holds Inv-loop μ-loop
 loop-holds c = (omega arith, (c .before .before .pre .1))
 
-cast-i : tie.Need-cast-i Inv-loop μ-loop
-cast-i c = search needs
+cast-start-rule : tie.Need-cast-start-rule Inv-loop μ-loop
+cast-start-rule c = search needs
 
-visit-definite-requires : tie.Need-visit-definite-requires Inv-loop μ-loop
-visit-definite-requires c κs = definite-asks _ _ _ refl refl ((c .before .before .before .before .before .before .pre .0), (c .before .before .before .loop .inv .1 .standing), (c .before .if1 .taken), omega arith, visit-room _ _ 0 _ (c .before .before .before .loop .inv .1) (c .before .if1 .taken) (omega arith)) (omega arith)
-
-visit-defeasible-requires : tie.Need-visit-defeasible-requires Inv-loop μ-loop
-visit-defeasible-requires c κs = defeasible-asks _ _ _ refl refl ((c .before .before .before .before .before .before .before .before .before .before .pre .0), (c .before .before .before .visit-definite .ensures .standing), (c .before .before .before .before .before .if1 .taken), omega arith, visit-again _ _ _ (c .before .before .before .before .before .before .before .loop .inv .1) (c .before .before .before .visit-definite .ensures) (c .before .before .before .before .before .if1 .taken)) (omega arith)
+start-rule-requires : tie.Need-start-rule-requires Inv-loop μ-loop
+start-rule-requires c κs = ((c .before .before .before .before .before .before .pre .0), started-again _ _ _ (c .before .before .before .loop .inv .1), (c .before .if1 .taken))
 
 add-r : tie.Need-add-r Inv-loop μ-loop
 add-r c = search needs
@@ -35,7 +30,7 @@ loop-less : tie.Need-loop-less Inv-loop μ-loop
 loop-less c = search needs
 
 loop-again : tie.Need-loop-again Inv-loop μ-loop
-loop-again c = (omega arith, started-next _ _ _ (c .before .before .before .before .before .before .before .before .before .before .loop .inv .1) (c .before .before .before .before .before .before .visit-definite .ensures) (c .before .before .visit-defeasible .ensures))
+loop-again c = (omega arith, started-on _ _ _ _ (c .before .before .before .before .before .before .loop .inv .1) (c .before .before .start-rule .ensures))
 
 same-length : tie.Need-same-length Inv-loop μ-loop
 same-length c = (c .before .before .loop .inv .1 .kept .size)
@@ -50,9 +45,8 @@ start-spec =
     Inv-loop
     μ-loop
     loop-holds
-    cast-i
-    visit-definite-requires
-    visit-defeasible-requires
+    cast-start-rule
+    start-rule-requires
     add-r
     loop-less
     loop-again

@@ -1,50 +1,47 @@
 -- `engine::memory::visit::visit` meets its contract. Assumes nothing.
-use Rattle.engine.proofs.Accepted.{definite-asks, defeasible-asks, visit-done}
+use borrow.Author.Tests.{not-true, not-false}
+use Rattle.engine.proofs.Accepted.{definite-asks, reaches-asks, decide-asks, visit-undecided, visit-decided}
 use borrow.Author.Needs.{needs}
 use Rattle.engine.proofs.memory.visit.visit.Statement.{statement}
 use Rattle.engine.proofs.memory.visit.visit.Tie as tie
 
-wide-requires : tie.Need-wide-requires
-wide-requires c κs = search needs
-
-wide-requires-2 : tie.Need-wide-requires-2
-wide-requires-2 c κs = search needs
-
 visit-definite-requires : tie.Need-visit-definite-requires
-visit-definite-requires c κs = definite-asks _ _ _ (c .before .wide .ensures) (c .wide2 .ensures) (c .before .before .before .before .before .before .pre) (c .before .before .before .if1 .taken)
-
-wide-requires-3 : tie.Need-wide-requires-3
-wide-requires-3 c κs = search needs
-
-wide-requires-4 : tie.Need-wide-requires-4
-wide-requires-4 c κs = search needs
-
-visit-defeasible-requires : tie.Need-visit-defeasible-requires
-visit-defeasible-requires c κs = defeasible-asks _ _ _ (c .before .wide3 .ensures) (c .wide4 .ensures) (c .before .before .before .before .before .before .pre) (c .before .before .before .if1 .left)
+visit-definite-requires c κs = definite-asks _ _ _ _ _ (c .before .before .before .before .pre) (c .before .if1 .taken)
 
 same-length : tie.Need-same-length
 same-length c = search needs
 
 returns : tie.Need-returns
-returns c = visit-done _ _ _ (c .before .before .before .before .wide .ensures) (c .before .before .before .wide2 .ensures) (c .before .before .before .before .before .before .before .before .before .pre) _ (c .before .before .visit-definite .ensures)
+returns c = search needs
+
+reaches-requires : tie.Need-reaches-requires
+reaches-requires c κs = reaches-asks _ _ _ _ _ (c .before .before .before .before .pre)
 
 same-length-2 : tie.Need-same-length-2
 same-length-2 c = search needs
 
 returns-2 : tie.Need-returns-2
-returns-2 c = visit-done _ _ _ (c .before .before .before .before .wide3 .ensures) (c .before .before .before .wide4 .ensures) (c .before .before .before .before .before .before .before .before .before .pre) _ (c .before .before .visit-defeasible .ensures)
+returns-2 c = visit-undecided _ _ _ _ _ (c .before .before .before .before .before .before .before .before .pre) _ (c .before .before .before .reaches .ensures) (not-true _ (c .if2 .taken))
+
+decide-requires : tie.Need-decide-requires
+decide-requires c κs = decide-asks _ _ _ _ _ (c .before .before .before .before .before .before .before .before .before .pre) _ (c .before .before .before .before .reaches .ensures) (not-false _ (c .before .if2 .left)) (c .before .before .before .before .before .before .if1 .left)
+
+same-length-3 : tie.Need-same-length-3
+same-length-3 c = search needs
+
+returns-3 : tie.Need-returns-3
+returns-3 c = visit-decided _ _ _ _ _ (c .before .before .before .before .before .before .before .before .before .before .before .before .pre) _ (c .before .before .before .before .before .before .before .reaches .ensures) _ (c .before .before .decide .ensures)
 
 pub visit-spec : {M : Type 1} → statement M
 visit-spec =
     tie.close
     (tie.spec
-    wide-requires
-    wide-requires-2
     visit-definite-requires
-    wide-requires-3
-    wide-requires-4
-    visit-defeasible-requires
     same-length
     returns
+    reaches-requires
     same-length-2
-    returns-2)
+    returns-2
+    decide-requires
+    same-length-3
+    returns-3)

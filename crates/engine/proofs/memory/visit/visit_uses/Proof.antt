@@ -1,4 +1,5 @@
 -- `engine::memory::visit::visit_uses` meets its contract. The loop's invariant is `Spreading` of proofs/Adding.antt: the uses before the k-th are visited. Assumes nothing.
+use Rattle.engine.proofs.Accepted.{asks-wide, visit-wide}
 use Prim.Native.Nat.{_-_}
 use Rattle.table.specs.Format.{theoryIn}
 use Rattle.engine.proofs.Adding.{Spreading, uses-start-of, uses-end-of, use-small, visit-asks, uses-next-of}
@@ -24,8 +25,14 @@ loop-holds c = uses-start-of _ _ _ _ _ (c .before .before .before .before .befor
 load-use-requires : tie.Need-load-use-requires Inv-loop μ-loop
 load-use-requires c κs = use-small _ _ _ _ _ (c .before .before .before .before .before .before .before .before .before .pre .0) _ _ (c .before .before .loop .inv) _ (c .before .before .before .before .before .end-use .ensures) (c .before .loop-test .taken)
 
+wide-requires : tie.Need-wide-requires Inv-loop μ-loop
+wide-requires c κs = search needs
+
+wide-requires-2 : tie.Need-wide-requires-2 Inv-loop μ-loop
+wide-requires-2 c κs = search needs
+
 visit-requires : tie.Need-visit-requires Inv-loop μ-loop
-visit-requires c κs = visit-asks _ _ _ _ _ (c .before .before .before .before .before .before .before .before .before .before .before .pre .0) _ _ (c .before .before .before .before .loop .inv) _ (c .before .before .before .before .before .before .before .end-use .ensures) (c .before .before .before .loop-test .taken) _ (c .before .load-use .ensures)
+visit-requires c κs = asks-wide _ _ _ (c .before .wide .ensures) (c .wide2 .ensures) (visit-asks _ _ _ _ _ (c .before .before .before .before .before .before .before .before .before .before .before .before .before .pre .0) _ _ (c .before .before .before .before .before .before .loop .inv) _ (c .before .before .before .before .before .before .before .before .before .end-use .ensures) (c .before .before .before .before .before .loop-test .taken) _ (c .before .before .before .load-use .ensures))
 
 add-k : tie.Need-add-k Inv-loop μ-loop
 add-k c = search needs
@@ -34,7 +41,7 @@ loop-less : tie.Need-loop-less Inv-loop μ-loop
 loop-less c = search needs
 
 loop-again : tie.Need-loop-again Inv-loop μ-loop
-loop-again c = uses-next-of _ _ _ _ _ (c .before .before .before .before .before .before .before .before .before .before .before .before .before .before .pre .0) _ _ (c .before .before .before .before .before .before .before .loop .inv) _ (c .before .before .before .before .before .before .before .before .before .before .end-use .ensures) (c .before .before .before .before .before .before .loop-test .taken) _ (c .before .before .before .before .load-use .ensures) _ (c .before .before .visit .ensures)
+loop-again c = uses-next-of _ _ _ _ _ (c .before .before .before .before .before .before .before .before .before .before .before .before .before .before .before .before .pre .0) _ _ (c .before .before .before .before .before .before .before .before .before .loop .inv) _ (c .before .before .before .before .before .before .before .before .before .before .before .before .end-use .ensures) (c .before .before .before .before .before .before .before .before .loop-test .taken) _ (c .before .before .before .before .before .before .load-use .ensures) _ (visit-wide _ _ _ (c .before .before .before .before .wide .ensures) (c .before .before .before .wide2 .ensures) _ (c .before .before .visit .ensures))
 
 same-length : tie.Need-same-length Inv-loop μ-loop
 same-length c = search needs
@@ -52,6 +59,8 @@ visit-uses-spec =
     first-use-requires
     loop-holds
     load-use-requires
+    wide-requires
+    wide-requires-2
     visit-requires
     add-k
     loop-less

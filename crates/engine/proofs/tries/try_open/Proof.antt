@@ -1,0 +1,61 @@
+-- `engine::tries::try_open` meets its contract. Assumes nothing.
+use native.Mathlib.Omega.{arith}
+use borrow.Author.Tests.{not-true, not-false}
+use mathlib.Core.Path.{_∙_}
+use Rattle.engine.proofs.Trying.{infers-at, few, skips-unproved, room-for, writes-line}
+use borrow.Author.Needs.{needs}
+use Rattle.engine.proofs.tries.try_open.Statement.{statement}
+use Rattle.engine.proofs.tries.try_open.Tie as tie
+
+mul-x : tie.Need-mul-x
+mul-x c = record { fits = omega (arith, few _ _ (c .before .before .before .pre .0) .atoms) }
+
+add-x : tie.Need-add-x
+add-x c = record { fits = omega (arith, few _ _ (c .before .before .before .pre .0) .atoms) }
+
+follows-requires : tie.Need-follows-requires
+follows-requires c κs = search needs
+
+same-length : tie.Need-same-length
+same-length c = search needs
+
+returns : tie.Need-returns
+returns c = skips-unproved _ _ (c .before .before .before .before .before .before .pre .0) _ _ (c .before .before .before .before .before .before .pre .1) (c .before .before .before .before .before .before .pre .2) _ _ _ (c .before .before .before .before .before .before .pre .3) _ ((c .before .follows .ensures) ∙ infers-at _ _ _ _ (c .before .before .before .before .before .before .pre .2)) (not-true _ (c .if1 .taken))
+
+write-requires : tie.Need-write-requires
+write-requires c κs = ((c .before .before .before .before .before .before .before .pre .3 .ready), few _ _ (c .before .before .before .before .before .before .before .pre .0) .atoms, omega arith, (c .before .before .before .before .before .before .before .pre .4))
+
+mul-log : tie.Need-mul-log
+mul-log c = search needs
+
+slice-write-log : tie.Need-slice-write-log
+slice-write-log c = room-for _ _ (c .before .before .before .before .before .before .before .before .before .before .pre .0) _ _ (c .before .before .before .before .before .before .before .before .before .before .pre .1) (c .before .before .before .before .before .before .before .before .before .before .pre .2) _ _ _ (c .before .before .before .before .before .before .before .before .before .before .pre .3) (c .before .before .before .before .before .before .before .before .before .before .pre .4) _ ((c .before .before .before .before .before .follows .ensures) ∙ infers-at _ _ _ _ (c .before .before .before .before .before .before .before .before .before .before .pre .2)) (not-false _ (c .before .before .before .before .if1 .left)) .0
+
+add-result : tie.Need-add-result
+add-result c = record { fits = omega (arith, room-for _ _ (c .before .before .before .before .before .before .before .before .before .before .pre .0) _ _ (c .before .before .before .before .before .before .before .before .before .before .pre .1) (c .before .before .before .before .before .before .before .before .before .before .pre .2) _ _ _ (c .before .before .before .before .before .before .before .before .before .before .pre .3) (c .before .before .before .before .before .before .before .before .before .before .pre .4) _ ((c .before .before .before .before .before .follows .ensures) ∙ infers-at _ _ _ _ (c .before .before .before .before .before .before .before .before .before .before .pre .2)) (not-false _ (c .before .before .before .before .if1 .left)) .1) }
+
+same-length-2 : tie.Need-same-length-2
+same-length-2 c = search needs
+
+same-length-3 : tie.Need-same-length-3
+same-length-3 c = search needs
+
+returns-2 : tie.Need-returns-2
+returns-2 c = writes-line _ _ (c .before .before .before .before .before .before .before .before .before .before .pre .0) _ _ (c .before .before .before .before .before .before .before .before .before .before .pre .1) (c .before .before .before .before .before .before .before .before .before .before .pre .2) _ _ _ (c .before .before .before .before .before .before .before .before .before .before .pre .3) (c .before .before .before .before .before .before .before .before .before .before .pre .4) _ ((c .before .before .before .before .before .follows .ensures) ∙ infers-at _ _ _ _ (c .before .before .before .before .before .before .before .before .before .before .pre .2)) (not-false _ (c .before .before .before .before .if1 .left)) _ (c .before .before .write .ensures)
+
+pub try-open-spec : {M : Type 1} → statement M
+try-open-spec =
+    tie.close
+    (tie.spec
+    mul-x
+    add-x
+    follows-requires
+    same-length
+    returns
+    write-requires
+    mul-log
+    slice-write-log
+    add-result
+    same-length-2
+    same-length-3
+    returns-2)

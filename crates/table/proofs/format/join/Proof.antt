@@ -1,0 +1,17 @@
+-- `table::format::join` meets its contract. Assumes nothing.
+use mathlib.Core.Path.{refl}
+use borrow.Author.Needs.{needs}
+use Rattle.table.proofs.format.join.Statement.{statement}
+use Rattle.table.proofs.format.join.Tie as tie
+
+mul-result : tie.Need-mul-result
+mul-result c = search needs
+
+add-result : tie.Need-add-result
+add-result c = search needs
+
+returns : tie.Need-returns
+returns c = refl
+
+pub join-spec : {M : Type 1} → statement M
+join-spec = tie.close (tie.spec mul-result add-result returns)
