@@ -23,3 +23,5 @@ pub mod Walks
 pub mod Accepted
 pub mod Adding
 pub mod Rivals
+pub mod Tallies
+pub mod Machine

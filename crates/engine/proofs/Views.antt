@@ -1,15 +1,15 @@
 -- Laws of the memory's words: one store changes one word of one field, or one use. Assumes nothing.
 use Prim.Native.Nat.{ℕ, _+_, _*_, _≤_, _<_}
 use native.Mathlib.Omega.{arith}
-use mathlib.Core.Path.{_≡_, refl, sym, _∙_, ap, subst}
-use mathlib.Core.Logic.{_⊎_, inl, inr, ⊎-elim}
-use mathlib.Core.Bool.{Bool, true, false, cond}
+use mathlib.Core.Path.{_≡_, sym, _∙_, ap}
+use mathlib.Core.Logic.{_⊎_, ⊎-elim}
+use mathlib.Core.Bool.{cond}
 use mathlib.Core.List.{List}
-use lib.Dec.{T, ltb, ltb→lt, lt→ltb}
+use lib.Dec.{ltb, ltb→lt, lt→ltb}
 use lib.ListN.{length, getD, set, drop}
 use lib.Seq.{getD-set-same, getD-set-other, drop-set-lt}
 use Rattle.logic.specs.Tests.{_and_}
-use Rattle.logic.proofs.Tests.{test-cases, cond-cases, cond-true, cond-false, and-intro, and-left, and-right}
+use Rattle.logic.proofs.Tests.{test-cases, cond-true, cond-false, and-intro, and-left, and-right}
 use Rattle.engine.specs.Memory.{view, useAt}
 
 pub view-in : (m : List ℕ) (f i : ℕ) → f < 28 → i < 1024 → view m f i ≡ getD m (1024 * f + i) 0

@@ -19,11 +19,15 @@ use Rattle.logic.proofs.Lists.{member-right, member-here, snoc-append, distinct
 use Rattle.logic.proofs.Derivations.{derives-all-below}
 use Rattle.logic.proofs.Budgets.{run-started, rest-done, rest-steps, rest-stops}
 use Rattle.logic.proofs.Plain.{plain-lawful}
+use Rattle.engine.specs.declared.answer.Counts.{Counts}
 use Rattle.engine.specs.declared.answer.Answer.the-variants.{Stopped, Finished}
-use Rattle.engine.specs.Memory.{heldOf, writtenOf}
+use Rattle.engine.specs.declared.tally.Tally.{Tally}
+use Rattle.engine.specs.Memory.{heldOf}
 use Rattle.engine.specs.Api.{Kept, adds}
-use Rattle.engine.specs.Working.{Logged, Processed, Worked}
+use Rattle.engine.specs.Tallies.{next, due, Next, Stepped}
+use Rattle.engine.specs.Working.{Logged, Worked}
 use Rattle.engine.proofs.Trying.{kept-same, kept-on, member-more, drop-further}
+use Rattle.engine.proofs.Tallies.{step-stopped, step-worked}
 
 -- what was processed may stand before what is pending
 put-after : (b : Bool) (done todo : List ℕ) (x : ℕ) → done ++ put b todo x ≡ put b (done ++ todo) x
@@ -48,22 +52,26 @@ none-left done [] l w e f h = refl
 none-left done (x ∷ xs) l w e f h = absurd (lt-irrefl w (omega (arith, ap length e, length-append done (x ∷ xs))))
 
 -- Where a run stands: what is left from here is what was left at the start.
-pub record Stands (d : Theory) (budget : ℕ) (mem₀ log₀ mem log : List ℕ) (n w spent : ℕ) : Type 0 where
+pub record Stands (d : Theory) (budget : ℕ) (mem₀ log₀ mem log : List ℕ) (n : ℕ) (t : Tally) : Type 0 where
   pub done : List ℕ
   pub todo : List ℕ
   pub lines : take n log ≡ done ++ todo
-  pub worked : w ≡ length done
+  pub worked : t .worked ≡ length done
   pub held : (x : ℕ) → heldOf mem x ≡ member x done
   pub logged : Logged d mem log n
-  pub same : rest (plainSystem d) budget done todo spent ≡ run (plainSystem d) budget
-  pub within : spent ≤ budget
+  pub same : rest (plainSystem d) budget done todo (t .spent) ≡ run (plainSystem d) budget
+  pub within : t .spent ≤ budget
   pub past : drop n log ≡ drop n log₀
   pub size : length log ≡ length log₀
   pub kept : Kept mem₀ mem
 
+-- the lines and the tally as counts
+abbrev Counted : Counts → ℕ → Tally → Type 0
+Counted k n t = (k .lines ≡ n) × (k .worked ≡ t .worked) × (k .spent ≡ t .spent)
+
 module _ (d : Theory) (p : T (proper d)) (budget : ℕ) where
   pub stands-start : (mem log : List ℕ) (n start : ℕ) → Logged d mem log n → take n log ≡ initial (plainSystem d) → ((x : ℕ) → heldOf mem x ≡ false)
-      → start ≡ size d → start ≤ budget → Stands d budget mem log mem log n 0 start
+      → start ≡ size d → start ≤ budget → Stands d budget mem log mem log n (record { worked = 0; spent = start })
   unfolding someOf systemOf
   stands-start mem log n start g e h f l =
       record {
@@ -80,93 +88,109 @@ module _ (d : Theory) (p : T (proper d)) (budget : ℕ) where
         kept = kept-same mem;
       }
 
-  module _ (mem₀ log₀ mem log : List ℕ) (n w spent : ℕ) (g : Stands d budget mem₀ log₀ mem log n w spent) where
+  module _ (mem₀ log₀ mem log : List ℕ) (n : ℕ) (t : Tally) (g : Stands d budget mem₀ log₀ mem log n t) where
     -- the run's outcome, as it is answered
-    ending : (b : Bool) (todo : List ℕ) → g .todo ≡ todo → run (plainSystem d) budget ≡ outcome b (g .done) todo spent
-        → Worked (run (plainSystem d) budget) mem₀ log₀ mem log (cond b (Finished (record { lines = n; worked = w; spent = spent })) (Stopped (record { lines = n; worked = w; spent = spent })))
-    ending b todo t o =
+    ending : (b : Bool) (todo : List ℕ) → g .todo ≡ todo → run (plainSystem d) budget ≡ outcome b (g .done) todo (t .spent) → (k : Counts) → Counted k n t
+        → Worked (run (plainSystem d) budget) mem₀ log₀ mem log (cond b (Finished k) (Stopped k))
+    ending b todo e o k c =
         subst
-        (λ r. Worked r mem₀ log₀ mem log (cond b (Finished (record { lines = n; worked = w; spent = spent })) (Stopped (record { lines = n; worked = w; spent = spent }))))
+        (λ r. Worked r mem₀ log₀ mem log (cond b (Finished k) (Stopped k)))
         (sym o)
         (record {
-          answer =
-              ap₂ (λ i j. cond b (Finished (record { lines = i; worked = j; spent = spent })) (Stopped (record { lines = i; worked = j; spent = spent }))) number (g .worked);
+          answer = ap (λ z. cond b (Finished z) (Stopped z)) counts;
           written =
               sym (take-append-drop n log) ∙ ap₂ (λ (x y : List ℕ). x ++ y) whole (g .past)
-              ∙ ap (λ k. (g .done ++ todo) ++ drop k log₀) number;
+              ∙ ap (λ i. (g .done ++ todo) ++ drop i log₀) number;
           kept = g .kept;
         })
       where
         whole : take n log ≡ g .done ++ todo
-        whole = g .lines ∙ ap (λ (k : List ℕ). g .done ++ k) t
+        whole = g .lines ∙ ap (λ (l : List ℕ). g .done ++ l) e
 
         number : n ≡ length (g .done ++ todo)
         number = sym (length-take-le n log (g .logged .inside)) ∙ ap length whole
 
-    pub stands-done : n ≤ w → Worked (run (plainSystem d) budget) mem₀ log₀ mem log (Finished (record { lines = n; worked = w; spent = spent }))
+        counts : k ≡ record { lines = length (g .done ++ todo); worked = length (g .done); spent = t .spent }
+        counts = λ i. record { lines = (c .0 ∙ number) i; worked = (c .1 ∙ g .worked) i; spent = c .2 i }
+
+    pub stands-done : n ≤ t .worked → (k : Counts) → Counted k n t → Worked (run (plainSystem d) budget) mem₀ log₀ mem log (Finished k)
     stands-done h =
-        let e : g .todo ≡ [] = none-left (g .done) (g .todo) (take n log) w (g .lines) (g .worked) (omega (arith, length-take-le n log (g .logged .inside))) in
+        let e : g .todo ≡ [] = none-left (g .done) (g .todo) (take n log) (t .worked) (g .lines) (g .worked) (omega (arith, length-take-le n log (g .logged .inside))) in
         ending true [] e
-        (sym (g .same) ∙ ap (λ t. rest (plainSystem d) budget (g .done) t spent) e ∙ rest-done (plainSystem d) (plain-lawful d p) budget (g .done) spent)
+        (sym (g .same) ∙ ap (λ l. rest (plainSystem d) budget (g .done) l (t .spent)) e ∙ rest-done (plainSystem d) (plain-lawful d p) budget (g .done) (t .spent))
 
-    module _ (more : w < n) where
-      -- the next line
-      abbrev next : ℕ
-      next = getD log w 0
+    module _ (more : t .worked < n) where
+      abbrev x : ℕ
+      x = next log t
 
-      split : (xs : List ℕ) × (g .todo ≡ next ∷ xs)
+      split : (xs : List ℕ) × (g .todo ≡ x ∷ xs)
       split =
-          let (xs, e) = split-of (g .done) (g .todo) (take n log) w (g .lines) (g .worked) (omega (arith, length-take-le n log (g .logged .inside))) in
-          (xs, e ∙ ap (λ z. z ∷ xs) (getD-take n log w 0 more))
+          let (xs, e) = split-of (g .done) (g .todo) (take n log) (t .worked) (g .lines) (g .worked) (omega (arith, length-take-le n log (g .logged .inside))) in
+          (xs, e ∙ ap (λ z. z ∷ xs) (getD-take n log (t .worked) 0 more))
 
-      whole : take n log ≡ g .done ++ (next ∷ split .0)
+      whole : take n log ≡ g .done ++ (x ∷ split .0)
       whole = g .lines ∙ ap (λ (k : List ℕ). g .done ++ k) (split .1)
 
-      next-member : T (member next (take n log))
-      next-member = subst (λ k. T (member next k)) (sym whole) (member-right next (g .done) (next ∷ split .0) (member-here next (split .0)))
+      next-member : T (member x (take n log))
+      next-member = subst (λ k. T (member x k)) (sym whole) (member-right x (g .done) (x ∷ split .0) (member-here x (split .0)))
 
-      pub next-small : getD log w 0 < 8 * d .atoms
+      next-small : x < 8 * d .atoms
       unfolding systemOf
-      next-small = let b : next < 4 * (2 * d .atoms) = derives-all-below (plainSystem d) [] (take n log) (g .logged .derives) next next-member in omega arith
+      next-small = let b : x < 4 * (2 * d .atoms) = derives-all-below (plainSystem d) [] (take n log) (g .logged .derives) x next-member in omega arith
 
-      pub next-written : writtenOf mem (getD log w 0) ≡ true
-      next-written = g .logged .written next ∙ true-of _ next-member
+      -- the next line, written and not processed
+      pub stands-asks : Next d budget mem log n t
+      stands-asks =
+          record {
+            logged = g .logged;
+            more = more;
+            small = next-small;
+            written = g .logged .written x ∙ true-of _ next-member;
+            new = g .held x ∙ false-of _ (distinct-apart (g .done) x (split .0) (subst (λ k. T (distinct k)) whole (g .logged .once)));
+            within = g .within;
+          }
 
-      pub next-new : heldOf mem (getD log w 0) ≡ false
-      next-new = g .held next ∙ false-of _ (distinct-apart (g .done) next (split .0) (subst (λ k. T (distinct k)) whole (g .logged .once)))
+      adds-done : (y : ℕ) → adds (heldOf mem) x y ≡ member y (g .done ++ (x ∷ []))
+      adds-done y = ap (λ b. b or eqb y x) (g .held y) ∙ member-more (g .done) x y
 
-      adds-done : (y : ℕ) → adds (heldOf mem) next y ≡ member y (g .done ++ (next ∷ []))
-      adds-done y = ap (λ b. b or eqb y next) (g .held y) ∙ member-more (g .done) next y
+      next-cost : due d mem x ≡ costAfter (plainSystem d) (g .done) x
+      next-cost = ap₂ (λ h k. plainSystem d .cost h k x) (fun-ext (g .held)) (fun-ext adds-done)
 
-      module _ (due : ℕ) (paid : due ≡ plainSystem d .cost (heldOf mem) (adds (heldOf mem) (getD log w 0)) (getD log w 0)) where
-        next-cost : due ≡ costAfter (plainSystem d) (g .done) next
-        next-cost = paid ∙ ap₂ (λ h k. plainSystem d .cost h k next) (fun-ext (g .held)) (fun-ext adds-done)
+      module _ (mem′ log′ : List ℕ) (n′ : ℕ) (t′ : Tally) (e : Stepped d budget mem log n t mem′ log′ n′ t′) where
+        pub stands-stopped : t′ .worked ≡ t .worked → (k : Counts) → Counted k n′ t′ → Worked (run (plainSystem d) budget) mem₀ log₀ mem′ log′ (Stopped k)
+        stands-stopped h k c =
+            let (less, em, el, en, et) = step-stopped d budget mem log n t mem′ log′ n′ t′ e h in
+            subst (λ l. Worked (run (plainSystem d) budget) mem₀ log₀ mem′ l (Stopped k)) (sym el)
+            (subst (λ m. Worked (run (plainSystem d) budget) mem₀ log₀ m log (Stopped k)) (sym em)
+            (ending false (x ∷ split .0) (split .1)
+            (sym (g .same) ∙ ap (λ l. rest (plainSystem d) budget (g .done) l (t .spent)) (split .1)
+            ∙ rest-stops (plainSystem d) (plain-lawful d p) budget (g .done) x (split .0) (t .spent) (subst (λ i. budget - t .spent < i) next-cost less))
+            k (c .0 ∙ en, c .1 ∙ ap (λ z. z .worked) et, c .2 ∙ ap (λ z. z .spent) et)))
 
-        pub stands-stopped : budget - spent < due → Worked (run (plainSystem d) budget) mem₀ log₀ mem log (Stopped (record { lines = n; worked = w; spent = spent }))
-        stands-stopped h =
-            ending false (next ∷ split .0) (split .1)
-            (sym (g .same) ∙ ap (λ t. rest (plainSystem d) budget (g .done) t spent) (split .1)
-            ∙ rest-stops (plainSystem d) (plain-lawful d p) budget (g .done) next (split .0) spent (subst (λ k. budget - spent < k) next-cost h))
-
-        pub stands-next : due ≤ budget - spent → (mem′ log′ : List ℕ) (n′ w′ spent′ : ℕ) → Processed d (getD log w 0) mem log n mem′ log′ n′ → w′ ≡ w + 1
-            → spent′ ≡ spent + due → Stands d budget mem₀ log₀ mem′ log′ n′ w′ spent′
-        stands-next h mem′ log′ n′ w′ spent′ k ew es =
+        pub stands-next : (t′ .worked ≡ t .worked → ⊥) → Stands d budget mem₀ log₀ mem′ log′ n′ t′
+        stands-next h =
+            let (fit, k, et) = step-worked d budget mem log n t mem′ log′ n′ t′ e h in
+            let ew : t′ .worked ≡ t .worked + 1 = ap (λ z. z .worked) et in
+            let es : t′ .spent ≡ t .spent + due d mem x = ap (λ z. z .spent) et in
             record {
-              done = g .done ++ (next ∷ []);
-              todo = process (plainSystem d) (g .done) next (split .0);
+              done = g .done ++ (x ∷ []);
+              todo = process (plainSystem d) (g .done) x (split .0);
               lines =
-                  k .lines ∙ ap (λ j. grow (plainSystem d) j [] (take n log) (plainSystem d .tried next)) (fun-ext adds-done)
-                  ∙ ap (λ l. grow (plainSystem d) (held (g .done ++ (next ∷ []))) [] l (plainSystem d .tried next)) (whole ∙ sym (snoc-append (g .done) next (split .0)))
-                  ∙ sym (grow-after (plainSystem d) (held (g .done ++ (next ∷ []))) (g .done ++ (next ∷ [])) (split .0) (plainSystem d .tried next));
-              worked = omega (arith, ew, g .worked, length-append (g .done) (next ∷ []));
+                  k .lines ∙ ap (λ j. grow (plainSystem d) j [] (take n log) (plainSystem d .tried x)) (fun-ext adds-done)
+                  ∙ ap (λ l. grow (plainSystem d) (held (g .done ++ (x ∷ []))) [] l (plainSystem d .tried x)) (whole ∙ sym (snoc-append (g .done) x (split .0)))
+                  ∙ sym (grow-after (plainSystem d) (held (g .done ++ (x ∷ []))) (g .done ++ (x ∷ [])) (split .0) (plainSystem d .tried x));
+              worked = omega (arith, ew, g .worked, length-append (g .done) (x ∷ []));
               held = λ y. k .held y ∙ adds-done y;
               logged = k .logged;
               same =
-                  ap (rest (plainSystem d) budget (g .done ++ (next ∷ [])) (process (plainSystem d) (g .done) next (split .0))) (es ∙ ap (λ z. spent + z) next-cost)
-                  ∙ sym (rest-steps (plainSystem d) (plain-lawful d p) budget (g .done) next (split .0) spent (subst (λ z. z ≤ budget - spent) next-cost h))
-                  ∙ ap (λ t. rest (plainSystem d) budget (g .done) t spent) (sym (split .1)) ∙ g .same;
-              within = omega (arith, es, g .within);
+                  ap (rest (plainSystem d) budget (g .done ++ (x ∷ [])) (process (plainSystem d) (g .done) x (split .0))) (es ∙ ap (λ z. t .spent + z) next-cost)
+                  ∙ sym (rest-steps (plainSystem d) (plain-lawful d p) budget (g .done) x (split .0) (t .spent) (subst (λ z. z ≤ budget - t .spent) next-cost fit))
+                  ∙ ap (λ l. rest (plainSystem d) budget (g .done) l (t .spent)) (sym (split .1)) ∙ g .same;
+              within = omega (arith, es, fit, g .within);
               past = k .past ∙ drop-further n n′ log log₀ (k .more) (g .past);
               size = k .size ∙ g .size;
               kept = kept-on mem₀ mem mem′ (g .kept) (k .kept);
             }
+
+        pub stands-less : (t′ .worked ≡ t .worked → ⊥) → t′ .worked ≡ t .worked + 1
+        stands-less h = ap (λ z. z .worked) (step-worked d budget mem log n t mem′ log′ n′ t′ e h .2)

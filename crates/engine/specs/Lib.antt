@@ -3,5 +3,6 @@ pub mod Memory
 pub mod Api
 pub mod Deciding
 pub mod Working
+pub mod Tallies
 pub mod Indexing
 pub mod Visits

@@ -4,7 +4,7 @@ use Prim.Native.Nat.{ℕ, zero, suc, _+_, _-_, _*_, _/_, _%_, _≤_, _<_}
 use mathlib.Core.Path.{_≡_}
 use mathlib.Core.Bool.{Bool, true, cond}
 use mathlib.Core.List.{List, map}
-use lib.Dec.{T, ltb, leb, eqb}
+use lib.Dec.{ltb, eqb}
 use lib.ListN.{length, getD}
 use Rattle.logic.specs.Tests.{_and_, _or_, isnt, member, countBelow, weigh, upto, pick}
 use Rattle.logic.specs.Theory.{Theory, Kind, strict, defeasible, defeater, complement, kindOf, headOf, bodyOf, isFact, strictFor, supporter}

@@ -2,5 +2,6 @@
 pub mod answer;
 mod memory;
 pub mod run;
+mod tally;
 mod tries;
 mod work;

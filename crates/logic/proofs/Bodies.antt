@@ -1,9 +1,8 @@
 -- Laws of the tests of a rule's antecedents, over the tag. Assumes nothing.
 use Prim.Native.Nat.{ℕ}
-use mathlib.Core.Path.{_≡_}
 use mathlib.Core.Bool.{Bool}
 use lib.Dec.{T}
-use Rattle.logic.specs.Tests.{isnt, member, empty, everyOf, someOf}
+use Rattle.logic.specs.Tests.{isnt, member, empty}
 use Rattle.logic.specs.Theory.{Theory, bodyOf}
 use Rattle.logic.specs.Inference.{allHave, oneHas}
 use Rattle.logic.proofs.Tests.{everyOf-intro, everyOf-elim, someOf-intro, someOf-elim}

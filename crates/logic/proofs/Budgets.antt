@@ -3,7 +3,7 @@ use Prim.Native.Nat.{ℕ, zero, suc, _+_, _-_, _≤_, _<_}
 use native.Mathlib.Nat.{le-refl, le-trans, not-le-of-lt, lt-irrefl, add-zero}
 use native.Mathlib.Omega.{arith}
 use mathlib.Core.Path.{_≡_, refl, sym, _∙_, ap, subst}
-use mathlib.Core.Logic.{_⊎_, inl, inr, ⊎-elim, _↔_}
+use mathlib.Core.Logic.{_⊎_, ⊎-elim, _↔_}
 use mathlib.Core.Bool.{Bool, true, false, cond}
 use mathlib.Core.List.{List, [], _∷_, _++_, append-nil, headD, cons-ne-nil, IsPrefix}
 use lib.Dec.{T, leb, leb→le, le→leb}
@@ -11,8 +11,8 @@ use Rattle.logic.specs.Tests.{member, empty, distinct}
 use Rattle.logic.specs.System.{System, held, derivesFrom, derivation, Derivable}
 use Rattle.logic.specs.Worklist.{Outcome, outcome, logOf, initial, process, costAfter, costs, costsFrom, proceed, rest, unstarted, run}
 use Rattle.logic.specs.Demands.{Demands}
-use Rattle.logic.proofs.Tests.{test-cases, cond-true, cond-false, at-most, empty-nil, nil-empty}
-use Rattle.logic.proofs.Lists.{snoc-append, distinct-left, member-nil, member-left}
+use Rattle.logic.proofs.Tests.{cond-true, cond-false, at-most, empty-nil, nil-empty}
+use Rattle.logic.proofs.Lists.{snoc-append, distinct-left, member-nil}
 use Rattle.logic.proofs.Derivations.{Lawful, derives-front, closed-holds}
 use Rattle.logic.proofs.Runs.{prefix-refl, prefix-trans, prefix-under, grow-extends, Sound, costs-snoc, proceed-done, proceed-zero, proceed-steps, proceed-stays, proceed-cases, proceed-keeps, proceed-finished, initial-sound, process-sound}
 

@@ -1,13 +1,11 @@
 -- What is tried after a conclusion: its candidates, each with every tag. Assumes nothing.
-use Prim.Native.Nat.{ℕ, zero, suc, _+_, _*_, _/_, _%_, _≤_, _<_}
-use native.Mathlib.Omega.{arith}
-use mathlib.Core.Path.{_≡_, refl, sym, _∙_, ap, subst}
-use mathlib.Core.Logic.{_⊎_, inl, inr, ⊎-elim}
-use mathlib.Core.Bool.{Bool}
+use Prim.Native.Nat.{ℕ, _+_, _*_, _<_}
+use mathlib.Core.Path.{_≡_, sym, _∙_, ap, subst}
+use mathlib.Core.Logic.{_⊎_, ⊎-elim}
 use mathlib.Core.List.{List, [], _∷_, _++_, map}
-use lib.Dec.{T, eqb, eqb→eq}
-use Rattle.logic.specs.Tests.{_and_, _or_, isnt, member, upto, pick}
-use Rattle.logic.specs.Theory.{Theory, complement, isStrict, kindOf, headOf, bodyOf}
+use lib.Dec.{T}
+use Rattle.logic.specs.Tests.{_and_, _or_, member, upto}
+use Rattle.logic.specs.Theory.{Theory, complement, headOf}
 use Rattle.logic.specs.Reading.{conclusion, visits, visited, heads, candidates, withTags}
 use Rattle.logic.proofs.Lists.{member-nil, member-here, member-there, member-cons-elim, member-left, member-right, member-append, member-pick, member-pick-intro, member-upto, member-upto-intro, member-map, member-map-intro}
 use Rattle.logic.proofs.Literals.{complement-complement, complement-below}

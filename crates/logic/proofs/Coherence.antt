@@ -1,13 +1,13 @@
 -- Coherence: a derivation never holds a conclusion and its opposite, the number with the lowest bit flipped. Assumes nothing.
-use Prim.Native.Nat.{ℕ, _+_, _*_, _/_, _%_, _≤_, _<_}
+use Prim.Native.Nat.{ℕ, _+_, _*_, _/_, _≤_, _<_}
 use native.Mathlib.Omega.{arith}
-use mathlib.Core.Path.{_≡_, refl, sym, _∙_, ap, subst}
+use mathlib.Core.Path.{_≡_, sym, _∙_, ap, subst}
 use mathlib.Core.Logic.{⊎-elim}
 use mathlib.Core.Bool.{Bool, true, false}
 use mathlib.Core.List.{List, [], _∷_, _++_, append-nil}
 use lib.Dec.{T}
 use lib.ListN.{length}
-use Rattle.logic.specs.Tests.{member, distinct, total, weigh, countBelow}
+use Rattle.logic.specs.Tests.{member, distinct, total, weigh}
 use Rattle.logic.specs.Theory.{complement}
 use Rattle.logic.specs.System.{System, held, derivesFrom, derivation}
 use Rattle.logic.proofs.Lists.{member-snoc, member-nil, snoc-append}

@@ -1,20 +1,19 @@
 -- A cost is the growth of a weight of what is held, and what a coherent test weighs is bounded. Assumes nothing.
 use Prim.Native.Nat.{ℕ, zero, suc, _+_, _-_, _*_, _/_, _%_, _≤_, _<_}
-use native.Mathlib.Nat.{mod-lt, le-trans, le-refl, le-of-eq, lt-irrefl, mul-assoc, add-zero, zero-mul, not-suc-le-zero}
+use native.Mathlib.Nat.{mod-lt, le-trans, le-refl, le-of-eq, mul-assoc, zero-mul, not-suc-le-zero}
 use native.Mathlib.Omega.{arith}
 use mathlib.Core.Path.{_≡_, refl, sym, _∙_, ap, ap₂, subst, fun-ext}
-use mathlib.Core.Logic.{_⊎_, inl, inr, ⊎-elim}
-use mathlib.Core.Bool.{Bool, true, false, cond}
+use mathlib.Core.Logic.{_⊎_, ⊎-elim}
+use mathlib.Core.Bool.{Bool, true, false}
 use mathlib.Core.List.{List, [], _∷_, _++_}
-use lib.Dec.{T, eqb, eqb→eq, eqb-refl, eqb·suc-zero}
+use lib.Dec.{T, eqb, eqb→eq, eqb·suc-zero}
 use lib.ListN.{length}
-use Rattle.logic.specs.Tests.{_and_, _or_, isnt, someOf, member, empty, distinct, total, weigh, countBelow}
+use Rattle.logic.specs.Tests.{_and_, _or_, isnt, someOf, member, empty, total, weigh, countBelow}
 use Rattle.logic.specs.Theory.{Theory, bodyOf, entries, size}
-use Rattle.logic.specs.Inference.{allHave, oneHas}
-use Rattle.logic.specs.System.{System, held}
-use Rattle.logic.specs.Reading.{Reading, tags, familyOf, conclusion, visits, visited, decided, decides, names, naming, costOf, taggedBy, systemOf}
-use Rattle.logic.proofs.Tests.{test-cases, at-most, test-eq, and-left, and-right, or-left, or-right, or-elim, eq→eqb}
-use Rattle.logic.proofs.Lists.{member-nil, member-left, member-snoc, member-last, member-cons-elim, member-here, member-there, distinct-apart}
+use Rattle.logic.specs.System.{held}
+use Rattle.logic.specs.Reading.{Reading, familyOf, conclusion, visits, visited, decided, decides, names, naming, costOf, taggedBy, systemOf}
+use Rattle.logic.proofs.Tests.{test-cases, test-eq, and-left, and-right, or-left, or-right, or-elim, eq→eqb}
+use Rattle.logic.proofs.Lists.{member-nil, member-left, member-snoc, member-last, distinct-apart}
 use Rattle.logic.proofs.Sums.{total-ext, total-le, total-add, total-const, total-zero, total-swap, total-grid, total-point, weigh-true, weigh-false, weigh-le, weigh-imply, count-upto}
 use Rattle.logic.proofs.Derivations.{Lawful, derives-all-below}
 use Rattle.logic.proofs.Budgets.{Weighed}

@@ -8,10 +8,10 @@ use mathlib.Core.Bool.{Bool}
 use mathlib.Core.List.{List, [], _∷_}
 use lib.Dec.{T}
 use lib.ListN.{length}
-use Rattle.logic.specs.Tests.{isnt, everyOf, member, empty, distinct, upto, pick}
+use Rattle.logic.specs.Tests.{everyOf, member, distinct, upto, pick}
 use Rattle.logic.specs.Cycle.{Leads, one, more, Cycle, leadsInto, prune, cyclic}
 use Rattle.logic.proofs.Tests.{test-cases, cond-cases, and-intro, isnt-intro, someOf-intro, someOf-elim, everyOf-elim}
-use Rattle.logic.proofs.Lists.{filled-elim, filled-intro, member-cons-elim, member-here, member-nil, member-pick, member-pick-intro, member-upto, member-upto-intro, distinct-upto}
+use Rattle.logic.proofs.Lists.{filled-elim, filled-intro, member-cons-elim, member-nil, member-pick, member-pick-intro, member-upto, member-upto-intro, distinct-upto}
 use Rattle.logic.proofs.Pigeon.{pigeon}
 
 -- `pick` takes nothing in, and takes something out unless all pass

@@ -1,14 +1,14 @@
 -- Derivations of any closure system. Assumes nothing.
 use Prim.Native.Nat.{ℕ, _≤_, _<_}
-use mathlib.Core.Path.{_≡_, refl, sym, _∙_, ap, subst, fun-ext}
-use mathlib.Core.Logic.{_⊎_, inl, inr, ⊎-elim, _↔_}
-use mathlib.Core.Bool.{Bool, true, false}
-use mathlib.Core.List.{List, [], _∷_, _++_, append-assoc}
-use lib.Dec.{T, ltb, ltb→lt, lt→ltb}
+use mathlib.Core.Path.{sym, subst}
+use mathlib.Core.Logic.{_⊎_, ⊎-elim}
+use mathlib.Core.Bool.{Bool}
+use mathlib.Core.List.{List, [], _∷_, _++_}
+use lib.Dec.{T, ltb→lt, lt→ltb}
 use Rattle.logic.specs.Tests.{_and_, member}
-use Rattle.logic.specs.System.{System, held, derivesFrom, derivation, Derivable}
+use Rattle.logic.specs.System.{System, held, derivesFrom, derivation}
 use Rattle.logic.proofs.Tests.{and-intro, and-left, and-right}
-use Rattle.logic.proofs.Lists.{member-left, member-right, member-cons-elim, member-nil, member-here, snoc-append}
+use Rattle.logic.proofs.Lists.{member-left, member-cons-elim, member-nil, snoc-append}
 
 -- What is asked of a system: what follows is monotone in, and depends on no more than, the conclusions that have it among what
 -- is tried after them; what is tried after a conclusion is a conclusion; a cost is at least 1.

@@ -2,14 +2,13 @@
 use Prim.Native.Nat.{ℕ, zero, suc, _+_, _≤_, _<_}
 use native.Mathlib.Nat.{le-refl, le-step, lt-irrefl}
 use native.Mathlib.Omega.{arith}
-use mathlib.Core.Path.{_≡_, refl, sym, _∙_, ap, subst, fun-ext}
+use mathlib.Core.Path.{_≡_, refl, sym, ap, subst}
 use mathlib.Core.Logic.{_⊎_, inl, inr, ⊎-elim}
 use mathlib.Core.Bool.{Bool, true, false, cond}
-use mathlib.Core.List.{List, [], _∷_, _++_, map, append-assoc, append-nil}
+use mathlib.Core.List.{List, [], _∷_, _++_, map, append-assoc}
 use lib.Dec.{T, eqb, eqb→eq, eqb-refl}
-use lib.ListN.{length}
-use Rattle.logic.specs.Tests.{_and_, _or_, isnt, everyOf, someOf, member, empty, distinct, upto, pick}
-use Rattle.logic.proofs.Tests.{test-cases, cond-cases, eq→eqb, and-intro, and-left, and-right, or-left, or-right, or-elim, isnt-intro, isnt-elim, lt-suc-cases, test-eq}
+use Rattle.logic.specs.Tests.{_and_, _or_, isnt, someOf, member, empty, distinct, upto, pick}
+use Rattle.logic.proofs.Tests.{cond-cases, and-intro, and-left, and-right, or-left, or-right, or-elim, isnt-intro, isnt-elim, lt-suc-cases}
 
 pub member-cons-elim : (x y : ℕ) (l : List ℕ) → T (member x (y ∷ l)) → (x ≡ y) ⊎ T (member x l)
 unfolding someOf

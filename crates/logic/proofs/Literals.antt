@@ -1,9 +1,9 @@
 -- Complements, and the parts of a conclusion's number: a reading with F families writes tag t of literal q as 2F * q + t, so half
 -- of the number is F * q and the family. Assumes nothing.
-use Prim.Native.Nat.{ℕ, zero, suc, _+_, _-_, _*_, _/_, _%_, _≤_, _<_}
-use native.Mathlib.Nat.{mul-add-div, div-eq-of-lt, mod-eq-of-lt, mul-add-mod-self-left, div-add-mod, div-div-eq-div-mul, mod-lt, mul-comm, add-zero, div-lt-iff-lt-mul, mul-le-mul-left}
+use Prim.Native.Nat.{ℕ, suc, _+_, _-_, _*_, _/_, _%_, _≤_, _<_}
+use native.Mathlib.Nat.{mul-add-div, div-eq-of-lt, mod-eq-of-lt, mul-add-mod-self-left, div-add-mod, div-div-eq-div-mul, mul-comm, add-zero, div-lt-iff-lt-mul, mul-le-mul-left}
 use native.Mathlib.Omega.{arith}
-use mathlib.Core.Path.{_≡_, refl, sym, _∙_, ap, ap₂, subst}
+use mathlib.Core.Path.{_≡_, sym, _∙_, ap, subst}
 use lib.Arith.{mod-mul}
 use Rattle.logic.specs.Theory.{complement}
 

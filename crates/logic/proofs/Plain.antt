@@ -1,22 +1,21 @@
 -- The plain reading: its inference rules are local and opposed, so demands 2 and 3 hold of its runs. Assumes nothing.
-use Prim.Native.Nat.{ℕ, zero, suc, _+_, _-_, _*_, _/_, _%_, _≤_, _<_}
-use native.Mathlib.Nat.{mul-assoc, le-refl}
+use Prim.Native.Nat.{ℕ, zero, suc, _+_, _-_, _*_, _≤_, _<_}
+use native.Mathlib.Nat.{le-refl}
 use native.Mathlib.Omega.{arith}
-use mathlib.Core.Path.{_≡_, refl, sym, _∙_, ap, subst}
+use mathlib.Core.Path.{_≡_}
 use mathlib.Core.Logic.{_⊎_, inl, inr, ⊎-elim}
-use mathlib.Core.Bool.{Bool, true, false}
-use mathlib.Core.List.{List, [], _∷_, _++_}
-use lib.Dec.{T, eqb, eqb→eq, ltb→lt}
-use lib.ListN.{length}
-use Rattle.logic.specs.Tests.{_and_, _or_, isnt, _implies_, every, some, member, distinct}
-use Rattle.logic.specs.Theory.{Theory, complement, isStrict, kindOf, headOf, bodyOf, isFact, strictFor, supporter, attacker, superior, entries, size, isLiteral, proper}
+use mathlib.Core.Bool.{Bool}
+use mathlib.Core.List.{List, []}
+use lib.Dec.{T, eqb, eqb→eq}
+use Rattle.logic.specs.Tests.{_and_, _or_, isnt, _implies_, every, member}
+use Rattle.logic.specs.Theory.{Theory, complement, isStrict, kindOf, headOf, bodyOf, strictFor, supporter, attacker, size, proper}
 use Rattle.logic.specs.Inference.{+Δ, −Δ, +∂, −∂, allHave, oneHas, definitely, notDefinitely, countered, defeasibly, uncountered, notDefeasibly, follows}
-use Rattle.logic.specs.System.{System, held, derivation}
+use Rattle.logic.specs.System.{held, derivation}
 use Rattle.logic.specs.Worklist.{logOf, lines, run}
 use Rattle.logic.specs.Reading.{visits, candidates, tags, familyOf, systemOf}
 use Rattle.logic.specs.Plain.{plain, plainSystem, bound}
 use Rattle.logic.specs.Demands.{Demands}
-use Rattle.logic.proofs.Tests.{and-intro, and-left, and-right, or-left, or-right, or-elim, isnt-intro, isnt-elim, implies-intro, implies-elim, every-intro, every-elim, some-intro, some-elim}
+use Rattle.logic.proofs.Tests.{and-intro, and-left, and-right, or-left, or-right, or-elim, isnt-elim, implies-intro, implies-elim, every-intro, every-elim, some-intro, some-elim}
 use Rattle.logic.proofs.Candidates.{candidate-self, candidate-complement, candidate-head}
 use Rattle.logic.proofs.Bodies.{all-moves, one-moves, all-one}
 use Rattle.logic.proofs.Theories.{heads-below}
@@ -24,7 +23,7 @@ use Rattle.logic.proofs.Derivations.{Lawful, derives-all-below}
 use Rattle.logic.proofs.Budgets.{Weighed, demands}
 use Rattle.logic.proofs.Coherence.{Coherent, derivation-coherent, coherent-length}
 use Rattle.logic.proofs.Readings.{Rules, system-lawful, system-opposed}
-use Rattle.logic.proofs.Costs.{heaviest, reading-weighed}
+use Rattle.logic.proofs.Costs.{reading-weighed}
 
 module _ (d : Theory) where
   strict-kind : (r q : ℕ) → T (strictFor d r q) → T (isStrict (kindOf d r))

@@ -1,15 +1,14 @@
 -- The closure system of a reading is lawful and opposed, if the reading's inference rules are. Assumes nothing.
-use Prim.Native.Nat.{ℕ, zero, suc, _+_, _-_, _*_, _/_, _%_, _≤_, _<_}
+use Prim.Native.Nat.{ℕ, zero, suc, _+_, _-_, _*_, _/_, _%_, _<_}
 use native.Mathlib.Nat.{mod-lt, add-zero}
 use native.Mathlib.Omega.{arith}
 use mathlib.Core.Path.{_≡_, refl, sym, _∙_, ap, ap₂, subst}
 use mathlib.Core.Logic.{_⊎_, inl, inr, ⊎-elim}
 use mathlib.Core.Bool.{Bool}
 use lib.Dec.{T}
-use Rattle.logic.specs.Tests.{member, every}
+use Rattle.logic.specs.Tests.{member}
 use Rattle.logic.specs.Theory.{Theory, complement, headOf}
-use Rattle.logic.specs.System.{System}
-use Rattle.logic.specs.Reading.{Reading, tags, familyOf, conclusion, candidates, withTags, taggedBy, systemOf}
+use Rattle.logic.specs.Reading.{Reading, tags, familyOf, conclusion, candidates, taggedBy, systemOf}
 use Rattle.logic.proofs.Derivations.{Lawful}
 use Rattle.logic.proofs.Coherence.{Coherent, Opposed}
 use Rattle.logic.proofs.Candidates.{member-withTags, member-withTags-intro, candidates-below}

@@ -1,12 +1,12 @@
 -- Strictly rising lists: one is determined by its members. Assumes nothing.
 use Prim.Native.Nat.{ℕ, zero, suc, _+_, _≤_, _<_}
-use native.Mathlib.Nat.{le-refl, le-trans, le-step, lt-irrefl, le-antisymm, not-suc-le-zero, lt-of-lt-of-le, le-of-suc-le}
+use native.Mathlib.Nat.{le-refl, le-trans, le-step, lt-irrefl, not-suc-le-zero, le-of-suc-le}
 use native.Mathlib.Omega.{arith}
 use mathlib.Core.Path.{_≡_, refl, sym, _∙_, ap, subst}
-use mathlib.Core.Logic.{_⊎_, inl, inr, ⊎-elim}
-use mathlib.Core.Bool.{Bool, true, false, cond}
-use mathlib.Core.List.{List, [], _∷_, _++_, map}
-use lib.Dec.{T, leb, leb→le, le→leb, eqb}
+use mathlib.Core.Logic.{_⊎_, ⊎-elim}
+use mathlib.Core.Bool.{Bool, true}
+use mathlib.Core.List.{List, [], _∷_, _++_}
+use lib.Dec.{T, leb, leb→le, le→leb}
 use Rattle.logic.specs.Tests.{_and_, member, countBelow, total, weigh, upto, pick}
 use Rattle.logic.proofs.Tests.{test-cases, cond-cases, and-intro, and-left, and-right, lt-suc-cases}
 use Rattle.logic.proofs.Lists.{member-nil, member-here, member-there, member-cons-elim, member-upto}

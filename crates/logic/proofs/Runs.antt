@@ -3,16 +3,16 @@ use Prim.Native.Nat.{ℕ, zero, suc, _+_, _-_, _≤_, _<_}
 use native.Mathlib.Nat.{not-le-of-lt}
 use native.Mathlib.Omega.{arith}
 use mathlib.Core.Path.{_≡_, refl, sym, _∙_, ap, subst}
-use mathlib.Core.Logic.{_⊎_, inl, inr, ⊎-elim, _↔_}
-use mathlib.Core.Bool.{Bool, true, false, cond}
+use mathlib.Core.Logic.{_⊎_, ⊎-elim}
+use mathlib.Core.Bool.{Bool, true, false}
 use mathlib.Core.List.{List, [], _∷_, _++_, append-assoc, append-nil, IsPrefix}
 use lib.Dec.{T, leb, leb→le, le→leb}
-use Rattle.logic.specs.Tests.{_and_, isnt, member, empty, distinct, upto, pick}
-use Rattle.logic.specs.System.{System, held, derivesFrom, derivation, Derivable}
-use Rattle.logic.specs.Worklist.{Outcome, outcome, logOf, put, initial, grow, process, costAfter, costsFrom, costs, proceed, rest, unstarted, run}
+use Rattle.logic.specs.Tests.{_and_, isnt, member, empty, distinct}
+use Rattle.logic.specs.System.{System, held, derivesFrom, derivation}
+use Rattle.logic.specs.Worklist.{Outcome, outcome, put, initial, grow, process, costAfter, costsFrom, costs, proceed, run}
 use Rattle.logic.proofs.Tests.{test-cases, cond-true, cond-false, at-most, and-intro, and-left, and-right, isnt-intro, isnt-elim}
-use Rattle.logic.proofs.Lists.{member-nil, member-here, member-there, member-left, member-right, member-cons-elim, member-append, member-snoc, member-last, snoc-append, distinct-snoc, distinct-pick, distinct-upto, member-pick, member-pick-intro, member-upto, member-upto-intro}
-use Rattle.logic.proofs.Derivations.{Lawful, monotone, derives-next, derivation-snoc, derives-all-below, closed-holds}
+use Rattle.logic.proofs.Lists.{member-nil, member-here, member-there, member-left, member-right, member-cons-elim, member-snoc, member-last, snoc-append, distinct-snoc, distinct-pick, distinct-upto, member-pick, member-pick-intro, member-upto, member-upto-intro}
+use Rattle.logic.proofs.Derivations.{Lawful, monotone, derives-next, derivation-snoc, derives-all-below}
 
 pub prefix-refl : (l : List ℕ) → IsPrefix l l
 prefix-refl l = ([], append-nil l)

@@ -1,17 +1,17 @@
 -- Laws of sums and counts. Assumes nothing.
 use Prim.Native.Nat.{ℕ, zero, suc, _+_, _*_, _≤_, _<_}
-use native.Mathlib.Nat.{le-refl, le-step, lt-irrefl, add-zero, add-suc, zero-add, mul-zero, mul-suc, not-suc-le-zero, le-trans, zero-mul}
+use native.Mathlib.Nat.{le-refl, le-step, lt-irrefl, add-zero, add-suc, mul-zero, mul-suc, not-suc-le-zero, zero-mul}
 use native.Mathlib.Numerals.{add-one}
 use native.Mathlib.Omega.{arith}
-use mathlib.Core.Path.{_≡_, refl, sym, _∙_, ap, ap₂, subst, fun-ext}
-use mathlib.Core.Logic.{_⊎_, inl, inr, ⊎-elim}
+use mathlib.Core.Path.{_≡_, refl, sym, _∙_, ap, ap₂, subst}
+use mathlib.Core.Logic.{_⊎_, ⊎-elim}
 use mathlib.Core.Bool.{Bool, true, false, cond}
-use mathlib.Core.List.{List, [], _∷_, _++_}
-use lib.Dec.{T, eqb, eqb→eq, eqb-refl}
+use mathlib.Core.List.{[], _∷_}
+use lib.Dec.{T}
 use lib.ListN.{length, length-append}
-use Rattle.logic.specs.Tests.{_and_, _or_, isnt, everyOf, someOf, member, distinct, total, weigh, countBelow, upto, pick}
-use Rattle.logic.proofs.Tests.{test-cases, true-of, false-of, cond-cases, eq→eqb, and-left, and-right, isnt-elim, lt-suc-cases}
-use Rattle.logic.proofs.Lists.{member-here, member-there, member-cons-elim, member-nil, pick-append}
+use Rattle.logic.specs.Tests.{_and_, _or_, total, weigh, countBelow, upto, pick}
+use Rattle.logic.proofs.Tests.{true-of, false-of, lt-suc-cases}
+use Rattle.logic.proofs.Lists.{pick-append}
 
 pub total-ext : (n : ℕ) (f g : ℕ → ℕ) → ((k : ℕ) → k < n → f k ≡ g k) → total n f ≡ total n g
 unfolding total

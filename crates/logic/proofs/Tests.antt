@@ -1,14 +1,13 @@
 -- Laws of the tests, quantifiers and sums of specs/Tests.antt. Assumes nothing.
-use Prim.Native.Nat.{ℕ, zero, suc, _+_, _*_, _≤_, _<_}
+use Prim.Native.Nat.{ℕ, zero, suc, _≤_, _<_}
 use native.Mathlib.Nat.{le-refl, le-step, not-suc-le-zero, le-of-suc-le-suc, lt-of-not-le}
-use mathlib.Core.Path.{_≡_, refl, sym, _∙_, ap, subst, fun-ext}
-use mathlib.Core.Logic.{_⊎_, inl, inr, ⊎-elim, _↔_}
+use mathlib.Core.Path.{_≡_, refl, sym, ap, subst}
+use mathlib.Core.Logic.{_⊎_, inl, inr, ⊎-elim}
 use mathlib.Core.Bool.{Bool, true, false, cond}
-use mathlib.Core.List.{List, [], _∷_, _++_}
+use mathlib.Core.List.{List, [], _∷_}
 use lib.Arith.{lt-of-le-ne}
 use lib.Dec.{T, leb, leb→le, le→leb, eqb, eqb→eq, eqb-refl}
-use lib.ListN.{length}
-use Rattle.logic.specs.Tests.{_and_, _or_, isnt, _implies_, every, some, everyOf, someOf, member, empty, distinct, total, weigh, countBelow, upto, pick}
+use Rattle.logic.specs.Tests.{_and_, _or_, isnt, _implies_, every, some, everyOf, someOf, member, empty}
 
 -- a test passes or does not
 pub test-cases : (b : Bool) → T b ⊎ (T b → ⊥)

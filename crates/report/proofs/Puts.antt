@@ -5,11 +5,11 @@ use native.Mathlib.Numerals.{add-one}
 use native.Mathlib.Omega.{arith}
 use mathlib.Core.Path.{_≡_, refl, sym, _∙_, ap, ap₂, subst}
 use mathlib.Core.List.{List, [], _∷_, _++_, append-assoc, append-nil}
-use lib.ListN.{length, take, drop, set, replicate, length-append, length-drop, take-append-drop}
+use lib.ListN.{length, take, drop, set, replicate, length-append, take-append-drop}
 use lib.Seq.{paste, take-at, drop-at, drop-drop, length-take-le, take-length, set-split}
 use Rattle.report.specs.Text.{digit, decimal}
 use Rattle.report.specs.Printing.{Put}
-use Rattle.report.proofs.Decimal.{decimal-one, decimal-more, decimal-longer}
+use Rattle.report.proofs.Decimal.{decimal-one, decimal-more}
 
 -- the bytes before the end of a text that was put
 head-length : (out : List ℕ) (at : ℕ) (t : List ℕ) → at ≤ length out → length (take at out ++ t) ≡ at + length t

@@ -1,15 +1,10 @@
 -- A verdict by the tag that a match looks at, and the words. Assumes nothing.
-use Prim.Native.Nat.{ℕ, _+_, _≤_}
-use mathlib.Core.Path.{_≡_, refl, sym, subst}
-use mathlib.Core.List.{List}
-use lib.ListN.{length}
+use mathlib.Core.Path.{_≡_, refl}
 use borrow.Author.Tests.{eqb-false}
 use denote.Enum.Declared
 use Rattle.report.specs.declared.verdict.Verdict.{Verdict}
 use Rattle.report.specs.declared.verdict.Verdict.the-variants.{Go, Hold, Split, Open}
 use Rattle.report.proofs.verdict.Verdict.{the-type}
-use Rattle.report.specs.Text.{wordOf}
-use Rattle.report.specs.Printing.{Put, meant}
 
 pub is-go : (v : Verdict) → Declared.tagOf the-type v ≡ 0 → Go ≡ v
 is-go Go e = refl

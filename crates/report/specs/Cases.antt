@@ -1,12 +1,12 @@
 -- The marked cases of document 01 ("P") as rows: a table's words, a budget and the lengths of log and scratch in; the refusal's number
 -- or 0, whether it finished, the log, worked, spent, the bound and the verdicts out. And case 1's sheet, as it is printed.
-use Prim.Native.Nat.{ℕ, _-_, _*_, _/_, _%_}
+use Prim.Native.Nat.{ℕ, _-_, _/_, _%_}
 use mathlib.Core.Bool.{Bool, true, false}
 use mathlib.Core.List.{List, [], _∷_, _++_, map}
 use lib.Dec.{eqb}
 use lib.ListN.{length, replicate}
 use Rattle.logic.specs.Tests.{_and_, upto}
-use Rattle.logic.specs.Verdict.{Verdict, go, hold, split, «open»}
+use Rattle.logic.specs.Verdict.{Verdict, go, split, «open»}
 use Rattle.logic.specs.Cases.{both, sameList, numberOf}
 use Rattle.table.specs.declared.judge.Judgement.{Judgement}
 use Rattle.table.specs.declared.judge.Judgement.the-variants.{Accepted, Refused}

@@ -1,16 +1,16 @@
 -- The part of the right array that holds a rule's entries. Assumes nothing.
-use Prim.Native.Nat.{ℕ, zero, suc, _+_, _-_, _*_, _/_, min, _≤_, _<_}
-use native.Mathlib.Nat.{le-of-lt, le-of-eq, lt-irrefl, le-of-suc-le-suc}
+use Prim.Native.Nat.{ℕ, zero, suc, _+_, _-_, _*_, _/_, _≤_, _<_}
+use native.Mathlib.Nat.{lt-irrefl, le-of-suc-le-suc}
 use native.Mathlib.Omega.{arith}
 use mathlib.Core.Path.{_≡_, refl, sym, _∙_, ap, ap₂, subst}
 use borrow.Author.Tests.{le-ltb}
 use mathlib.Core.Logic.{⊎-elim}
-use mathlib.Core.Bool.{Bool, true, false, cond}
-use mathlib.Core.List.{List, [], _∷_, _++_, map, map-append}
+use mathlib.Core.Bool.{false, cond}
+use mathlib.Core.List.{List, [], _∷_, map, map-append}
 use lib.Dec.{T, ltb, eqb, eqb→eq, ltb→lt, lt→ltb}
 use lib.ListN.{length, take, drop, getD, length-take, length-drop}
 use lib.Seq.{getD-take, getD-drop}
-use Rattle.logic.specs.Tests.{countBelow, weigh, member, upto, pick}
+use Rattle.logic.specs.Tests.{member, upto, pick}
 use Rattle.logic.proofs.Tests.{at-most, cond-true, eq→eqb}
 use Rattle.logic.proofs.Lists.{member-here, member-there, member-map, member-map-intro, member-upto, member-upto-intro, member-pick, member-pick-intro}
 use Rattle.logic.proofs.Rising.{risingFrom, rising-snoc, rising-upto, rising-pick, rising-same, count-down, count-up}
@@ -23,7 +23,7 @@ use Rattle.table.specs.declared.judge.Refusal.{Refusal}
 use Rattle.table.specs.declared.judge.Judgement.the-variants.{Accepted, Refused}
 use Rattle.table.specs.Refusals.{disorder, judgementOf}
 use Rattle.table.proofs.Legal.{right-in, Legal, legal, whole-length, ranged, body-entry, rule-below}
-use Rattle.table.proofs.Sorted.{Before, before-left, entries-rise}
+use Rattle.table.proofs.Sorted.{before-left, entries-rise}
 
 pub below-bound : (b : List ℕ) (s : Sizes) (r : ℕ) → entriesBelow b s r ≤ s .entries
 unfolding entriesBelow

@@ -1,18 +1,17 @@
 -- What an accepted table has. Assumes nothing.
 use Prim.Native.Nat.{ℕ, zero, suc, _+_, _-_, _*_, _≤_, _<_}
 use native.Mathlib.Nat.{lt-of-not-le, not-suc-le-zero, zero-lt-suc, mul-one}
-use native.Mathlib.Omega.{arith}
 use mathlib.Core.Path.{_≡_, refl, sym, _∙_, ap, subst}
 use mathlib.Core.Logic.{⊎-elim}
 use mathlib.Core.Bool.{Bool, true, false, cond, true≢false}
-use mathlib.Core.List.{List, [], _∷_, map}
-use borrow.Author.Tests.{ltb-false, leb-false, eqb-true, lt-ltb}
-use lib.Dec.{T, ltb, leb, eqb, eqb→eq, lt→ltb, le→leb}
+use mathlib.Core.List.{List}
+use borrow.Author.Tests.{ltb-false, lt-ltb}
+use lib.Dec.{T, ltb, eqb, eqb→eq, lt→ltb, le→leb}
 use lib.ListN.{length, length-map}
-use Rattle.logic.specs.Tests.{_and_, _or_, isnt, every, some, everyOf, countBelow, total, weigh, upto, pick, member}
+use Rattle.logic.specs.Tests.{_and_, _or_, weigh, upto, pick, member}
 use Rattle.logic.specs.Theory.{proper, superior, entries}
-use Rattle.logic.specs.Cycle.{Cycle, cyclic}
-use Rattle.logic.proofs.Tests.{of-false, false-of, and-intro, or-left, or-right, isnt-intro, isnt-elim, every-intro, every-elim, some-intro, everyOf-intro}
+use Rattle.logic.specs.Cycle.{Cycle}
+use Rattle.logic.proofs.Tests.{of-false, false-of, and-intro, or-left, or-right, isnt-intro, every-intro, some-intro, everyOf-intro}
 use Rattle.logic.proofs.Lists.{member-map, member-pick, member-upto}
 use Rattle.logic.proofs.Sums.{total-ext, total-swap, total-const, count-upto}
 use Rattle.logic.proofs.Pigeon.{count-is-one}
@@ -22,7 +21,7 @@ use Rattle.table.specs.declared.judge.Refusal.{Refusal}
 use Rattle.table.specs.declared.judge.Refusal.the-variants.{Truncated, TooLarge, WrongLength, BadKind, OutOfRange, Unsorted, Cyclic}
 use Rattle.table.specs.declared.judge.Judgement.{Judgement}
 use Rattle.table.specs.declared.judge.Judgement.the-variants.{Accepted, Refused}
-use Rattle.table.specs.Format.{word, sizesOf, spanOf, left, right, leftIn, rightIn, factsFrom, rulesFrom, entriesFrom, pairsFrom, entryAt, pairAt, ruleAt, factAt, bodyIn, theoryIn}
+use Rattle.table.specs.Format.{word, sizesOf, spanOf, left, right, leftIn, rightIn, factsFrom, rulesFrom, entriesFrom, pairsFrom, entryAt, pairAt, ruleAt, bodyIn, theoryIn}
 use Rattle.table.specs.Refusals.{oversize, wrongLength, someAtLeast, badKind, outOfRange, disorder, cycle, judged, judgementOf}
 
 -- No number applies: the sizes are those of the first five words, and each fault's test fails.

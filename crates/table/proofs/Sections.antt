@@ -5,11 +5,11 @@ use native.Mathlib.Omega.{arith}
 use mathlib.Core.Logic.{⊎-elim}
 use borrow.Author.Count.{below-more}
 use mathlib.Core.Path.{_≡_, refl, _∙_, ap, ap₂, sym, subst}
-use mathlib.Core.Bool.{Bool, true, false}
+use mathlib.Core.Bool.{true, false}
 use mathlib.Core.List.{List}
 use lib.Dec.{T, ltb, eqb, eqb→eq, ltb→lt, lt→ltb, le→leb}
-use Rattle.logic.specs.Tests.{_and_, _or_, isnt, every, some}
-use Rattle.logic.proofs.Tests.{true-of, false-of, of-false, cond-false, at-most, eq→eqb, and-intro, and-left, and-right, or-left, or-right, or-elim, some-intro, isnt-intro, isnt-elim, every-intro, every-elim, some-found, some-none}
+use Rattle.logic.specs.Tests.{_and_, _or_, every}
+use Rattle.logic.proofs.Tests.{of-false, cond-false, at-most, eq→eqb, and-intro, and-left, and-right, or-left, or-right, or-elim, some-intro, isnt-intro, isnt-elim, every-intro, every-elim, some-found, some-none}
 use Rattle.table.specs.declared.format.Sizes.{Sizes}
 use Rattle.table.specs.Format.{word, spanOf, left, factsFrom, entriesFrom, pairsFrom}
 use Rattle.table.specs.Refusals.{badKind, sectionFrom, sectionSize, leftFrom, sectionLeft, sectionRight, rises, disorder}

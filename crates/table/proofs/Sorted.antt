@@ -5,13 +5,13 @@ use native.Mathlib.Numerals.{add-one}
 use native.Mathlib.Omega.{arith}
 use mathlib.Core.Path.{_≡_, refl, sym, _∙_, ap, subst}
 use mathlib.Core.Logic.{_⊎_, inl, inr, ⊎-elim}
-use mathlib.Core.Bool.{Bool, true, false, cond}
+use mathlib.Core.Bool.{false, cond}
 use mathlib.Core.List.{List}
 use lib.Dec.{T, eqb, ltb→lt, eqb→eq}
-use Rattle.logic.specs.Tests.{isnt, every, some}
+use Rattle.logic.specs.Tests.{every}
 use Rattle.logic.proofs.Tests.{test-cases, of-false, isnt-intro, and-left, and-right, or-elim, every-elim, some-intro, lt-suc-cases}
 use Rattle.table.specs.declared.format.Sizes.{Sizes}
-use Rattle.table.specs.Format.{left, right, factsFrom, entriesFrom, pairsFrom, leftIn, rightIn, entryAt, pairAt, factAt}
+use Rattle.table.specs.Format.{left, right, entriesFrom, pairsFrom, leftIn, rightIn, entryAt, pairAt}
 use Rattle.table.specs.Refusals.{sectionFrom, sectionSize, leftFrom, sectionLeft, sectionRight, rises, disorder}
 use Rattle.table.proofs.Legal.{left-in, right-in}
 

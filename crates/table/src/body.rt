@@ -1,10 +1,9 @@
 // Document 01, The table: "The antecedents of one rule are handed back as the part of the table's own right array".
-ghost use Prim.Native.Nat.{ℕ, _+_, _*_, _≤_, _<_};
+ghost use Prim.Native.Nat.{_+_, _*_, _<_};
 ghost use mathlib.Core.Path.{_≡_};
-ghost use lib.Dec.{ltb};
 ghost use lib.ListN.{length};
-ghost use Rattle.logic.specs.Tests.{countBelow, weigh};
-ghost use Rattle.table.specs.Format.{entryAt, spanOf};
+ghost use Rattle.logic.specs.Tests.{weigh};
+ghost use Rattle.table.specs.Format.{spanOf};
 ghost use Rattle.table.specs.Bodies.{entriesBelow, bodyPart, Body};
 use crate::format::Sizes;
 use crate::format::read_entry;

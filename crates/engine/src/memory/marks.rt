@@ -5,7 +5,7 @@ ghost use mathlib.Core.Bool.{false};
 ghost use lib.ListN.{length};
 ghost use Rattle.logic.specs.Tests.{_or_};
 ghost use Rattle.table.specs.Format.{theoryIn};
-ghost use Rattle.engine.specs.Memory.{Ready, heldOf, writtenOf};
+ghost use Rattle.engine.specs.Memory.{Ready, writtenOf};
 ghost use Rattle.engine.specs.Api.{Wrote};
 use crate::memory::tests::either;
 use crate::memory::words::load;

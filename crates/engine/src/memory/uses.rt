@@ -1,10 +1,10 @@
 // The rules that use a literal, and what the index says of a rule.
-ghost use Prim.Native.Nat.{_*_, _≤_, _<_};
+ghost use Prim.Native.Nat.{_≤_, _<_};
 ghost use mathlib.Core.Path.{_≡_};
 ghost use lib.ListN.{length};
 ghost use Rattle.logic.specs.Theory.{headOf, kindOf, isStrict};
 ghost use Rattle.table.specs.Format.{theoryIn};
-ghost use Rattle.engine.specs.Memory.{Ready, view, useAt, usesFrom, usesF};
+ghost use Rattle.engine.specs.Memory.{Ready, view, usesFrom, usesF};
 use crate::memory::fields::HEAD;
 use crate::memory::fields::KIND;
 use crate::memory::fields::USES;

@@ -1,7 +1,7 @@
 // The words of the memory, by field and index; nothing else indexes it.
 ghost use Prim.Native.Nat.{_+_, _*_, _≤_, _<_};
 ghost use mathlib.Core.Path.{_≡_};
-ghost use lib.ListN.{length, getD, set};
+ghost use lib.ListN.{length, set};
 ghost use Rattle.engine.specs.Memory.{view, useAt};
 
 pub fn load(mem: &[u16], field: usize, i: usize) -> u16

@@ -1,13 +1,11 @@
 use mathlib.Core.Path.{refl}
 use Rattle.logic.specs.Tests.{total}
 use Rattle.logic.proofs.Pigeon.{counted-le, counted-next, counted-all}
-use Prim.Native.Nat.{ℕ, _+_, _-_, _≤_, _<_}
+use Prim.Native.Nat.{_-_, _≤_}
 use native.Mathlib.Omega.{arith}
-use mathlib.Core.Path.{_≡_, sym, _∙_, ap}
+use mathlib.Core.Path.{_≡_, ap}
 use lib.Dec.{ltb}
-use Rattle.logic.specs.Tests.{countBelow, weigh}
-use Rattle.logic.proofs.Sums.{total-next}
-use Rattle.logic.proofs.Pigeon.{count-le}
+use Rattle.logic.specs.Tests.{countBelow}
 use Rattle.table.specs.Format.{entryAt}
 use Rattle.table.specs.Bodies.{entriesBelow}
 use borrow.Author.Needs.{needs}

@@ -1,5 +1,5 @@
 -- `table::flags::either` meets its contract. Assumes nothing.
-use Rattle.logic.specs.Tests.{_and_, _or_}
+use Rattle.logic.specs.Tests.{_or_}
 use Rattle.table.proofs.flags.either.Statement.{statement}
 use Rattle.table.proofs.flags.either.Tie as tie
 

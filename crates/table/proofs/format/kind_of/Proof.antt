@@ -1,8 +1,6 @@
 -- `table::format::kind_of` meets its contract. Assumes nothing.
 use Rattle.table.proofs.Reading.{kind-rest}
-use borrow.Author.Tests.{lt-ltb, le-ltb, ne-eqb}
-use mathlib.Core.Path.{_∙_, sym, ap, ap₂}
-use Rattle.table.specs.Format.{word, leftIn, rightIn, kindOf}
+use Rattle.table.specs.Format.{kindOf}
 use Rattle.table.proofs.format.kind_of.Statement.{statement}
 use Rattle.table.proofs.format.kind_of.Tie as tie
 

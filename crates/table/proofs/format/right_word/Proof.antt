@@ -1,9 +1,7 @@
 -- `table::format::right_word` meets its contract. Assumes nothing.
 use Rattle.table.proofs.Reading.{right-read}
-use Prim.Native.Nat.{_+_}
-use borrow.Author.Tests.{lt-ltb, le-ltb, ne-eqb}
-use mathlib.Core.Path.{_∙_, sym, ap, ap₂}
-use Rattle.table.specs.Format.{word, leftIn, rightIn, kindOf}
+use borrow.Author.Tests.{le-ltb}
+use Rattle.table.specs.Format.{word, rightIn}
 use borrow.Author.Needs.{needs}
 use Rattle.table.proofs.format.right_word.Statement.{statement}
 use Rattle.table.proofs.format.right_word.Tie as tie

@@ -3,7 +3,6 @@ use mathlib.Core.Path.{refl}
 use Rattle.table.proofs.Joined.{ored}
 use Rattle.table.specs.Refusals.{oversize}
 use Rattle.logic.specs.Tests.{_or_}
-use mathlib.Core.Path.{_∙_, ap}
 use borrow.Author.Needs.{needs}
 use Rattle.table.proofs.judge.too_large.Statement.{statement}
 use Rattle.table.proofs.judge.too_large.Tie as tie

@@ -1,8 +1,8 @@
 -- `table::order::section_from` meets its contract. Assumes nothing.
 use mathlib.Core.Path.{sym, ap}
 use native.Mathlib.Omega.{arith}
-use Rattle.table.specs.Refusals.{sectionFrom, sectionSize}
-use Rattle.table.proofs.Sections.{from-rest, size-rest}
+use Rattle.table.specs.Refusals.{sectionFrom}
+use Rattle.table.proofs.Sections.{from-rest}
 use borrow.Author.Needs.{needs}
 use Rattle.table.proofs.order.section_from.Statement.{statement}
 use Rattle.table.proofs.order.section_from.Tie as tie

@@ -1,8 +1,7 @@
 -- `table::order::section_size` meets its contract. Assumes nothing.
 use mathlib.Core.Path.{sym, ap}
-use native.Mathlib.Omega.{arith}
-use Rattle.table.specs.Refusals.{sectionFrom, sectionSize}
-use Rattle.table.proofs.Sections.{from-rest, size-rest}
+use Rattle.table.specs.Refusals.{sectionSize}
+use Rattle.table.proofs.Sections.{size-rest}
 use Rattle.table.proofs.order.section_size.Statement.{statement}
 use Rattle.table.proofs.order.section_size.Tie as tie
 

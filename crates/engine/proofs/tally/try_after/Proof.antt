@@ -1,9 +1,9 @@
--- `engine::work::try_after` meets its contract. Assumes nothing.
+-- `engine::tally::try_after` meets its contract. Assumes nothing.
 use native.Mathlib.Omega.{arith}
 use Rattle.engine.proofs.Opening.{logged-added, processed}
 use borrow.Author.Needs.{needs}
-use Rattle.engine.proofs.work.try_after.Statement.{statement}
-use Rattle.engine.proofs.work.try_after.Tie as tie
+use Rattle.engine.proofs.tally.try_after.Statement.{statement}
+use Rattle.engine.proofs.tally.try_after.Tie as tie
 
 add-requires : tie.Need-add-requires
 add-requires c κs = search needs

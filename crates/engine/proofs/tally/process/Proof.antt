@@ -1,0 +1,60 @@
+-- `engine::tally::process` meets its contract. Assumes nothing.
+use native.Mathlib.Omega.{arith}
+use Rattle.engine.proofs.Trying.{few, atoms-in, proper-in, lines-most}
+use Rattle.engine.proofs.Tallies.{stepped-stops, stepped-works}
+use borrow.Author.Needs.{needs}
+use Rattle.engine.proofs.tally.process.Statement.{statement}
+use Rattle.engine.proofs.tally.process.Tie as tie
+
+mul-x : tie.Need-mul-x
+mul-x c = search needs
+
+slice-read-x : tie.Need-slice-read-x
+slice-read-x c = search needs
+
+cost-requires : tie.Need-cost-requires
+cost-requires c κs = (c .before .before .before .before .before .pre .0, c .before .before .before .before .before .pre .1 .logged .ready, omega (arith, atoms-in (c .before .before .before .before .before .args .table .now) (c .before .before .before .before .before .args .s), c .before .before .before .before .before .pre .1 .small), c .before .before .before .before .before .pre .1 .new)
+
+sub-if1 : tie.Need-sub-if1
+sub-if1 c = search needs
+
+same-length : tie.Need-same-length
+same-length c = search needs
+
+returns : tie.Need-returns
+returns c = stepped-stops _ _ _ _ _ _ _ (c .before .cost .ensures) (c .if1 .taken)
+
+try-after-requires : tie.Need-try-after-requires
+try-after-requires c κs = (c .before .before .before .before .before .before .before .before .before .pre .0, c .before .before .before .before .before .before .before .before .before .pre .1 .logged, omega (arith, atoms-in (c .before .before .before .before .before .before .before .before .before .args .table .now) (c .before .before .before .before .before .before .before .before .before .args .s), c .before .before .before .before .before .before .before .before .before .pre .1 .small), c .before .before .before .before .before .before .before .before .before .pre .1 .written, c .before .before .before .before .before .before .before .before .before .pre .1 .new)
+
+add-t18 : tie.Need-add-t18
+add-t18 c = omega (arith, c .before .before .before .before .before .before .before .before .before .before .before .before .before .before .pre .1 .more, lines-most _ (proper-in _ _ (c .before .before .before .before .before .before .before .before .before .before .before .before .before .before .pre .0)) _ _ _ (c .before .before .before .before .before .before .before .before .before .before .before .before .before .before .pre .1 .logged), atoms-in (c .before .before .before .before .before .before .before .before .before .before .before .before .before .before .args .table .now) (c .before .before .before .before .before .before .before .before .before .before .before .before .before .before .args .s), few _ _ (c .before .before .before .before .before .before .before .before .before .before .before .before .before .before .pre .0) .atoms)
+
+add-t25 : tie.Need-add-t25
+add-t25 c = omega (arith, c .before .before .before .before .before .before .before .before .before .before .before .before .before .before .pre .1 .within, c .before .before .before .before .before .before .before .if1 .left)
+
+same-length-2 : tie.Need-same-length-2
+same-length-2 c = search needs
+
+same-length-3 : tie.Need-same-length-3
+same-length-3 c = search needs
+
+returns-2 : tie.Need-returns-2
+returns-2 c = stepped-works _ _ _ _ _ _ _ (c .before .before .before .before .before .before .before .before .cost .ensures) (c .before .before .before .before .before .before .before .if1 .left) _ _ _ (c .before .before .before .before .try-after .ensures)
+
+pub process-spec : {M : Type 1} → statement M
+process-spec =
+    tie.close
+    (tie.spec
+    mul-x
+    slice-read-x
+    cost-requires
+    sub-if1
+    same-length
+    returns
+    try-after-requires
+    add-t18
+    add-t25
+    same-length-2
+    same-length-3
+    returns-2)
