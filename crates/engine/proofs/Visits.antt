@@ -469,11 +469,12 @@ module _ (d : Theory) (m1 : List ℕ) (t r : ℕ) (lo : 2 ≤ t) (hi : t < 4) (k
     yes j = subst T (speaks-is ∙ both-is _) (of-true _ j)
 
     -- before the walk, after it, and without one
-    pub decide-walk : ltb kind 2 ≡ true → T (canSupport (kindOf d r)) × T (reached (view m3) t r) × Open d m3 (decidedFor (view m3)) (spokenTo d (view m3) t r 0)
-    decide-walk j = (
+    pub decide-walk : (u : ℕ) → t ≡ u → ltb kind 2 ≡ true → T (canSupport (kindOf d r)) × T (reached (view m3) u r) × Open d m3 (decidedFor (view m3)) (spokenTo d (view m3) u r 0)
+    decide-walk u f j = (
       and-right _ _ (yes j),
-      own-reached d m m1 m2 m3 t r lo hi k (c .standing) (c .short) (c .raised) free-raised own-raised (yes j),
-      own-open d m m1 m2 m3 t r lo hi k (c .standing) (c .short) (c .raised) free-raised own-raised (yes j),
+      subst (λ z. T (reached (view m3) z r)) f (own-reached d m m1 m2 m3 t r lo hi k (c .standing) (c .short) (c .raised) free-raised own-raised (yes j)),
+      subst (λ z. Open d m3 (decidedFor (view m3)) (spokenTo d (view m3) z r 0)) f
+          (own-open d m m1 m2 m3 t r lo hi k (c .standing) (c .short) (c .raised) free-raised own-raised (yes j)),
     )
 
     pub decide-told : (n : List ℕ) → ltb kind 2 ≡ true → Steady m3 n × Open d n (decidedFor (view n)) (spoken d (view n)) → Steady m1 n × Standing d n

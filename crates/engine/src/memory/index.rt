@@ -46,8 +46,8 @@ fn fill(table: &[u8], s: Sizes, mem: &mut [u16])
     place_uses(table, s, mem);
 }
 
-// Rule r has its one antecedent more, with +Δ and +∂. The second visit stands here in its two parts, and in `visit` too: of two calls
-// the compiler makes a function of `decide`, and what most visits do stays small.
+// Rule r has its one antecedent more, with +Δ and +∂. The second visit stands here in its two parts, and in `visit` too: where one function
+// makes both visits, the compiler no longer keeps `walk` apart.
 fn start_rule(table: &[u8], s: Sizes, mem: &mut [u16], r: usize)
     requires { ⌜ (judgementOf (now table) ≡ Accepted s) × Started (theoryIn (now table) s) r (now mem) (now mem) × (r < s .rules) ⌝ }
     ensures { λ _. ⌜ Started (theoryIn (now (table .entry)) s) (r + 1) (now (mem .entry)) (now (mem .exit)) ⌝ }

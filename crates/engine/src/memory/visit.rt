@@ -152,7 +152,8 @@ pub fn visit_definite(table: &[u8], s: Sizes, mem: &mut [u16], r: usize, t: usiz
     bump_if(mem, 21 + t, head, strict);
 }
 
-// A visit with tag +∂ or −∂ that has decided rule r: the rule is counted, and a supporter tells the rules that it is over.
+// A visit with tag +∂ or −∂ that has decided rule r: the rule is counted, and a supporter tells the rules that it is over. Of two calls
+// of `walk` the compiler makes a function of it, and what most visits do stays small.
 pub fn decide(table: &[u8], s: Sizes, mem: &mut [u16], r: usize, t: usize)
     requires { ⌜ Sound (theoryIn (now table) s) × Decided (theoryIn (now table) s) t r (now mem) × (r < s .rules) × (2 ≤ t) × (t < 4) ⌝ }
     requires { ⌜ (r < 1024) × (32768 ≤ length (now mem)) ⌝ }
@@ -165,8 +166,13 @@ pub fn decide(table: &[u8], s: Sizes, mem: &mut [u16], r: usize, t: usize)
     bump_if(mem, 28 - t, head, free);
     // firing or out
     bump_if(mem, 21 + t, head, speaks);
-    if speaks {
-        walk(table, s, mem, r, t);
+    if !speaks {
+        return;
+    }
+    if t == 2 {
+        walk(table, s, mem, r, 2);
+    } else {
+        walk(table, s, mem, r, 3);
     }
 }
 

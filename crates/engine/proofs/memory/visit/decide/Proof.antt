@@ -1,5 +1,6 @@
 -- `engine::memory::visit::decide` meets its contract. Assumes nothing.
 use native.Mathlib.Omega.{arith}
+use borrow.Author.Tests.{not-true, not-false}
 use mathlib.Core.Path.{_∙_}
 use Rattle.table.specs.Format.{theoryIn}
 use Rattle.engine.proofs.Visits.{decide-small, decide-small-next, decide-walk, decide-told, decide-end}
@@ -33,23 +34,34 @@ bump-if-requires-2 : tie.Need-bump-if-requires-2
 unfolding theoryIn
 bump-if-requires-2 c κs = decide-small-next _ _ _ _ (c .before .before .before .before .before .before .before .before .before .before .before .before .before .before .pre .0 .3) (c .before .before .before .before .before .before .before .before .before .before .before .before .before .before .pre .0 .4) (c .before .before .before .before .before .before .before .before .before .before .before .before .before .before .pre .0 .2) (c .before .before .before .before .before .before .before .before .before .before .before .before .before .before .pre .0 .1) ((c .before .before .before .before .before .before .before .before .before .wide .ensures) ∙ (c .before .before .before .before .before .before .before .before .before .before .load .ensures)) (c .before .before .before .before .before .before .before .before .before .before .before .before .before .before .pre .0 .0) (c .before .before .before .bump-if .ensures)
 
-walk-requires : tie.Need-walk-requires
-unfolding theoryIn
-walk-requires c κs = let w = decide-walk _ _ _ _ (c .before .before .before .before .before .before .before .before .before .before .before .before .before .before .before .before .before .before .before .pre .0 .3) (c .before .before .before .before .before .before .before .before .before .before .before .before .before .before .before .before .before .before .before .pre .0 .4) (c .before .before .before .before .before .before .before .before .before .before .before .before .before .before .before .before .before .before .before .pre .0 .2) (c .before .before .before .before .before .before .before .before .before .before .before .before .before .before .before .before .before .before .before .pre .0 .1) ((c .before .before .before .before .before .before .before .before .before .before .before .before .before .before .wide .ensures) ∙ (c .before .before .before .before .before .before .before .before .before .before .before .before .before .before .before .load .ensures)) (c .before .before .before .before .before .before .before .before .before .before .before .before .load2 .ensures) (c .before .before .before .before .before .before .before .before .before .before .is-free .ensures) _ _ (c .before .before .before .before .before .before .before .before .bump-if .ensures) (c .before .before .before .before .bump-if2 .ensures) (c .before .if1 .taken) in (((c .before .before .before .before .before .before .before .before .before .before .before .before .before .before .before .before .before .before .before .pre .0 .0), (c .before .before .before .before .before .before .before .before .before .before .before .before .before .before .before .before .before .before .before .pre .0 .2), (c .before .before .before .before .before .before .before .before .before .before .before .before .before .before .before .before .before .before .before .pre .0 .3), (c .before .before .before .before .before .before .before .before .before .before .before .before .before .before .before .before .before .before .before .pre .0 .4), w .0), ((w .1, w .2), ((c .before .before .before .before .before .before .before .before .before .before .before .before .before .before .before .before .before .before .before .pre .1 .0), w .2 .room)))
-
 same-length : tie.Need-same-length
 same-length c = search needs
 
 returns : tie.Need-returns
 unfolding theoryIn
-returns c = decide-told _ _ _ _ (c .before .before .before .before .before .before .before .before .before .before .before .before .before .before .before .before .before .before .before .before .before .before .pre .0 .3) (c .before .before .before .before .before .before .before .before .before .before .before .before .before .before .before .before .before .before .before .before .before .before .pre .0 .4) (c .before .before .before .before .before .before .before .before .before .before .before .before .before .before .before .before .before .before .before .before .before .before .pre .0 .2) (c .before .before .before .before .before .before .before .before .before .before .before .before .before .before .before .before .before .before .before .before .before .before .pre .0 .1) ((c .before .before .before .before .before .before .before .before .before .before .before .before .before .before .before .before .before .wide .ensures) ∙ (c .before .before .before .before .before .before .before .before .before .before .before .before .before .before .before .before .before .before .load .ensures)) (c .before .before .before .before .before .before .before .before .before .before .before .before .before .before .before .load2 .ensures) (c .before .before .before .before .before .before .before .before .before .before .before .before .before .is-free .ensures) _ _ (c .before .before .before .before .before .before .before .before .before .before .before .bump-if .ensures) (c .before .before .before .before .before .before .before .bump-if2 .ensures) _ (c .before .before .before .before .if1 .taken) (c .before .before .walk .ensures)
+returns c = decide-end _ _ _ _ (c .before .before .before .before .before .before .before .before .before .before .before .before .before .before .before .before .before .before .pre .0 .3) (c .before .before .before .before .before .before .before .before .before .before .before .before .before .before .before .before .before .before .pre .0 .4) (c .before .before .before .before .before .before .before .before .before .before .before .before .before .before .before .before .before .before .pre .0 .2) (c .before .before .before .before .before .before .before .before .before .before .before .before .before .before .before .before .before .before .pre .0 .1) ((c .before .before .before .before .before .before .before .before .before .before .before .before .before .wide .ensures) ∙ (c .before .before .before .before .before .before .before .before .before .before .before .before .before .before .load .ensures)) (c .before .before .before .before .before .before .before .before .before .before .before .load2 .ensures) (c .before .before .before .before .before .before .before .before .before .is-free .ensures) _ _ (c .before .before .before .before .before .before .before .bump-if .ensures) (c .before .before .before .bump-if2 .ensures) (not-true _ (c .if1 .taken))
+
+walk-requires : tie.Need-walk-requires
+unfolding theoryIn
+walk-requires c κs = let w = decide-walk _ _ _ _ (c .before .before .before .before .before .before .before .before .before .before .before .before .before .before .before .before .before .before .before .before .pre .0 .3) (c .before .before .before .before .before .before .before .before .before .before .before .before .before .before .before .before .before .before .before .before .pre .0 .4) (c .before .before .before .before .before .before .before .before .before .before .before .before .before .before .before .before .before .before .before .before .pre .0 .2) (c .before .before .before .before .before .before .before .before .before .before .before .before .before .before .before .before .before .before .before .before .pre .0 .1) ((c .before .before .before .before .before .before .before .before .before .before .before .before .before .before .before .wide .ensures) ∙ (c .before .before .before .before .before .before .before .before .before .before .before .before .before .before .before .before .load .ensures)) (c .before .before .before .before .before .before .before .before .before .before .before .before .before .load2 .ensures) (c .before .before .before .before .before .before .before .before .before .before .before .is-free .ensures) _ _ (c .before .before .before .before .before .before .before .before .before .bump-if .ensures) (c .before .before .before .before .before .bump-if2 .ensures) 2 (c .before .if2 .taken) (not-false _ (c .before .before .if1 .left)) in (((c .before .before .before .before .before .before .before .before .before .before .before .before .before .before .before .before .before .before .before .before .pre .0 .0), (c .before .before .before .before .before .before .before .before .before .before .before .before .before .before .before .before .before .before .before .before .pre .0 .2), omega arith, omega arith, w .0), ((w .1, w .2), ((c .before .before .before .before .before .before .before .before .before .before .before .before .before .before .before .before .before .before .before .before .pre .1 .0), w .2 .room)))
+
+walk-requires-2 : tie.Need-walk-requires-2
+unfolding theoryIn
+walk-requires-2 c κs = let w = decide-walk _ _ _ _ (c .before .before .before .before .before .before .before .before .before .before .before .before .before .before .before .before .before .before .before .before .pre .0 .3) (c .before .before .before .before .before .before .before .before .before .before .before .before .before .before .before .before .before .before .before .before .pre .0 .4) (c .before .before .before .before .before .before .before .before .before .before .before .before .before .before .before .before .before .before .before .before .pre .0 .2) (c .before .before .before .before .before .before .before .before .before .before .before .before .before .before .before .before .before .before .before .before .pre .0 .1) ((c .before .before .before .before .before .before .before .before .before .before .before .before .before .before .before .wide .ensures) ∙ (c .before .before .before .before .before .before .before .before .before .before .before .before .before .before .before .before .load .ensures)) (c .before .before .before .before .before .before .before .before .before .before .before .before .before .load2 .ensures) (c .before .before .before .before .before .before .before .before .before .before .before .is-free .ensures) _ _ (c .before .before .before .before .before .before .before .before .before .bump-if .ensures) (c .before .before .before .before .before .bump-if2 .ensures) 3 (omega (arith, (c .before .if2 .left), (c .before .before .before .before .before .before .before .before .before .before .before .before .before .before .before .before .before .before .before .before .pre .0 .3), (c .before .before .before .before .before .before .before .before .before .before .before .before .before .before .before .before .before .before .before .before .pre .0 .4))) (not-false _ (c .before .before .if1 .left)) in (((c .before .before .before .before .before .before .before .before .before .before .before .before .before .before .before .before .before .before .before .before .pre .0 .0), (c .before .before .before .before .before .before .before .before .before .before .before .before .before .before .before .before .before .before .before .before .pre .0 .2), omega arith, omega arith, w .0), ((w .1, w .2), ((c .before .before .before .before .before .before .before .before .before .before .before .before .before .before .before .before .before .before .before .before .pre .1 .0), w .2 .room)))
 
 same-length-2 : tie.Need-same-length-2
 same-length-2 c = search needs
 
 returns-2 : tie.Need-returns-2
 unfolding theoryIn
-returns-2 c = decide-end _ _ _ _ (c .before .before .before .before .before .before .before .before .before .before .before .before .before .before .before .before .before .before .pre .0 .3) (c .before .before .before .before .before .before .before .before .before .before .before .before .before .before .before .before .before .before .pre .0 .4) (c .before .before .before .before .before .before .before .before .before .before .before .before .before .before .before .before .before .before .pre .0 .2) (c .before .before .before .before .before .before .before .before .before .before .before .before .before .before .before .before .before .before .pre .0 .1) ((c .before .before .before .before .before .before .before .before .before .before .before .before .before .wide .ensures) ∙ (c .before .before .before .before .before .before .before .before .before .before .before .before .before .before .load .ensures)) (c .before .before .before .before .before .before .before .before .before .before .before .load2 .ensures) (c .before .before .before .before .before .before .before .before .before .is-free .ensures) _ _ (c .before .before .before .before .before .before .before .bump-if .ensures) (c .before .before .before .bump-if2 .ensures) (c .if1 .left)
+returns-2 c = decide-told _ _ _ _ (c .before .before .before .before .before .before .before .before .before .before .before .before .before .before .before .before .before .before .before .before .before .before .before .pre .0 .3) (c .before .before .before .before .before .before .before .before .before .before .before .before .before .before .before .before .before .before .before .before .before .before .before .pre .0 .4) (c .before .before .before .before .before .before .before .before .before .before .before .before .before .before .before .before .before .before .before .before .before .before .before .pre .0 .2) (c .before .before .before .before .before .before .before .before .before .before .before .before .before .before .before .before .before .before .before .before .before .before .before .pre .0 .1) ((c .before .before .before .before .before .before .before .before .before .before .before .before .before .before .before .before .before .before .wide .ensures) ∙ (c .before .before .before .before .before .before .before .before .before .before .before .before .before .before .before .before .before .before .before .load .ensures)) (c .before .before .before .before .before .before .before .before .before .before .before .before .before .before .before .before .load2 .ensures) (c .before .before .before .before .before .before .before .before .before .before .before .before .before .before .is-free .ensures) _ _ (c .before .before .before .before .before .before .before .before .before .before .before .before .bump-if .ensures) (c .before .before .before .before .before .before .before .before .bump-if2 .ensures) _ (not-false _ (c .before .before .before .before .before .if1 .left)) (c .before .before .walk .ensures)
+
+same-length-3 : tie.Need-same-length-3
+same-length-3 c = search needs
+
+returns-3 : tie.Need-returns-3
+unfolding theoryIn
+returns-3 c = decide-told _ _ _ _ (c .before .before .before .before .before .before .before .before .before .before .before .before .before .before .before .before .before .before .before .before .before .before .before .pre .0 .3) (c .before .before .before .before .before .before .before .before .before .before .before .before .before .before .before .before .before .before .before .before .before .before .before .pre .0 .4) (c .before .before .before .before .before .before .before .before .before .before .before .before .before .before .before .before .before .before .before .before .before .before .before .pre .0 .2) (c .before .before .before .before .before .before .before .before .before .before .before .before .before .before .before .before .before .before .before .before .before .before .before .pre .0 .1) ((c .before .before .before .before .before .before .before .before .before .before .before .before .before .before .before .before .before .before .wide .ensures) ∙ (c .before .before .before .before .before .before .before .before .before .before .before .before .before .before .before .before .before .before .before .load .ensures)) (c .before .before .before .before .before .before .before .before .before .before .before .before .before .before .before .before .load2 .ensures) (c .before .before .before .before .before .before .before .before .before .before .before .before .before .before .is-free .ensures) _ _ (c .before .before .before .before .before .before .before .before .before .before .before .before .bump-if .ensures) (c .before .before .before .before .before .before .before .before .bump-if2 .ensures) _ (not-false _ (c .before .before .before .before .before .if1 .left)) (c .before .before .walk2 .ensures)
 
 pub decide-spec : {M : Type 1} → statement M
 decide-spec =
@@ -63,8 +75,11 @@ decide-spec =
     bump-if-requires
     add-bump-if
     bump-if-requires-2
-    walk-requires
     same-length
     returns
+    walk-requires
+    walk-requires-2
     same-length-2
-    returns-2)
+    returns-2
+    same-length-3
+    returns-3)
