@@ -20,10 +20,13 @@ use Rattle.table.proofs.Legal.{limited, ranged, legal, right-in, stronger-below
 use Rattle.engine.specs.Memory.{view, useAt, factF, firstF}
 use Rattle.engine.specs.Indexing.{Only, Facts, Firsts}
 use Rattle.engine.proofs.Views.{view-set, view-set-index, view-set-field, use-set, rest-set}
-use Rattle.engine.proofs.Growth.{kept-none}
+use Rattle.engine.proofs.Growth.{kept-none, kept-then}
 
 pub only-none : (f : ℕ) (m : List ℕ) → Only f m m
 only-none f m = record { others = λ g j n. refl; uses = λ k. refl; kept = kept-none m }
+
+pub only-on : {f : ℕ} {m n o : List ℕ} → Only f m n → Only f n o → Only f m o
+only-on k g = record { others = λ h j ne. g .others h j ne ∙ k .others h j ne; uses = λ z. g .uses z ∙ k .uses z; kept = kept-then (k .kept) (g .kept) }
 
 -- a store in the one field
 pub only-next : (f i v : ℕ) {m n o : List ℕ} → f < 28 → i < 1024 → o ≡ set n (1024 * f + i) v → Only f m n → Only f m o
@@ -40,6 +43,12 @@ stored f i v n o hf hi l e = ap (λ z. view z f i) e ∙ view-set n f i v hf hi 
 
 pub stored-not : (f i v : ℕ) (n o : List ℕ) → f < 28 → i < 1024 → o ≡ set n (1024 * f + i) v → (j : ℕ) → (j ≡ i → ⊥) → view o f j ≡ view n f j
 stored-not f i v n o hf hi e j ne = ap (λ z. view z f j) e ∙ view-set-index n f i v hf hi f j ne
+
+-- every word of a field, one after the other
+pub filled-next : (f v i : ℕ) {m n o : List ℕ} → f < 28 → i < 1024 → 32768 ≤ length m → o ≡ set n (1024 * f + i) v → Only f m n × ((r : ℕ) → r < i → view n f r ≡ v)
+    → Only f m o × ((r : ℕ) → r < i + 1 → view o f r ≡ v)
+filled-next f v i {m} {n} {o} hf hi l e (k, a) =
+    (only-next f i v hf hi e k, λ r h. ⊎-elim (λ u. stored-not f i v n o hf hi e r (λ g. omega arith) ∙ a r u) (λ g. ap (view o f) g ∙ stored f i v n o hf hi (omega (arith, k .kept .size)) e) (lt-suc-cases r i (omega arith)))
 
 module _ (b : List ℕ) (s : Sizes) (a : judgementOf b ≡ Accepted s) where
   pub facts-none : (m : List ℕ) → ((q : ℕ) → view m factF q ≡ 0) → Facts (theoryIn b s) 0 m m
@@ -88,9 +97,9 @@ module _ (b : List ℕ) (s : Sizes) (a : judgementOf b ≡ Accepted s) where
   pub facts-all : {m n : List ℕ} (i k : ℕ) → i ≤ k → k ≤ i → Facts (theoryIn b s) i m n → Facts (theoryIn b s) k m n
   facts-all {m} {n} i k h l g = subst (λ z. Facts (theoryIn b s) z m n) (le-antisymm h l) g
 
-  pub firsts-none : (m : List ℕ) → Firsts (theoryIn b s) (s .pairs) m m
+  pub firsts-none : (m : List ℕ) → ((r : ℕ) → r < 1024 → view m firstF r ≡ s .pairs) → Firsts (theoryIn b s) (s .pairs) m m
   unfolding theoryIn
-  firsts-none m = record { only = only-none firstF m; first = λ i h l. absurd (omega arith) }
+  firsts-none m e = record { only = only-none firstF m; first = λ i h l. absurd (omega arith); none = λ r h _. e r h }
 
   -- a pair that was read, before those passed
   module _ (i : ℕ) (h : i < s .pairs) (p : Pair) (e : p ≡ pairAt b s i) where
@@ -105,6 +114,7 @@ module _ (b : List ℕ) (s : Sizes) (a : judgementOf b ≡ Accepted s) where
         record {
           only = only-next firstF (p .stronger) i (omega arith) firsts-small f (k .only);
           first = λ j u v. ⊎-elim (λ t. here j u (eqb→eq _ _ t)) (λ t. there j u v (λ g. t (eq→eqb _ _ g))) (test-cases (eqb (pairAt b s j .stronger) (p .stronger)));
+          none = λ r u v. stored-not firstF (p .stronger) i n o (omega arith) firsts-small f r (λ g. v i (omega arith) h (same ∙ sym g)) ∙ k .none r u (λ j c. v j (omega arith));
         }
       where
         same : pairAt b s i .stronger ≡ p .stronger
@@ -130,5 +140,6 @@ module _ (b : List ℕ) (s : Sizes) (a : judgementOf b ≡ Accepted s) where
             let r = k .first j (omega arith) v in
             (omega (arith, r .0), omega (arith, r .1), ap (λ z. pairAt b s z .stronger) same-word ∙ r .2)
 
-  pub firsts-all : {m n : List ℕ} (i : ℕ) → i ≤ 0 → Firsts (theoryIn b s) i m n → Firsts (theoryIn b s) 0 m n
-  firsts-all {m} {n} i h g = subst (λ z. Firsts (theoryIn b s) z m n) (le-antisymm h (omega arith)) g
+  pub firsts-all : {m n o : List ℕ} (i : ℕ) → i ≤ 0 → Only firstF m n → Firsts (theoryIn b s) i n o → Firsts (theoryIn b s) 0 m o
+  firsts-all {m} {n} {o} i h k g =
+      subst (λ z. Firsts (theoryIn b s) z m o) (le-antisymm h (omega arith)) (record { only = only-on k (g .only); first = g .first; none = g .none })

@@ -5,8 +5,8 @@ ghost use lib.ListN.{length};
 ghost use Rattle.table.specs.declared.judge.Judgement.the-variants.{Accepted};
 ghost use Rattle.table.specs.Format.{theoryIn};
 ghost use Rattle.table.specs.Refusals.{judgementOf};
-ghost use Rattle.engine.specs.Memory.{view, factF};
-ghost use Rattle.engine.specs.Indexing.{Facts, Firsts};
+ghost use Rattle.engine.specs.Memory.{view, factF, firstF};
+ghost use Rattle.engine.specs.Indexing.{Only, Facts, Firsts};
 use crate::memory::fields::FACT;
 use crate::memory::fields::FIRST;
 use crate::memory::words::store;
@@ -27,11 +27,24 @@ pub fn mark_facts(table: &[u8], s: Sizes, mem: &mut [u16])
     }
 }
 
+// P at every rule: so it stays at a rule that is over none, and a walk over its pairs ends at once.
+fn clear_firsts(mem: &mut [u16], pairs: u16)
+    requires { ⌜ 32768 ≤ length (now mem) ⌝ }
+    ensures { λ _. ⌜ Only firstF (now (mem .entry)) (now (mem .exit)) × ((r : ℕ) → r < 1024 → view (now (mem .exit)) firstF r ≡ pairs) ⌝ }
+{
+    let mut i: usize = 0;
+    while i < 1024 {
+        store(mem, FIRST, i, pairs);
+        i += 1;
+    }
+}
+
 // At each stronger rule its first pair: the last that is stored, as the pairs are passed downwards.
 pub fn mark_firsts(table: &[u8], s: Sizes, mem: &mut [u16])
     requires { ⌜ (judgementOf (now table) ≡ Accepted s) × (32768 ≤ length (now mem)) ⌝ }
     ensures { λ _. ⌜ Firsts (theoryIn (now (table .entry)) s) 0 (now (mem .entry)) (now (mem .exit)) ⌝ }
 {
+    clear_firsts(mem, s.pairs);
     let mut i: u16 = s.pairs;
     while 0 < i {
         i -= 1;
