@@ -1,30 +1,29 @@
 -- A conclusion is processed: the rules that use its literal are visited, and its mark is set. Assumes nothing.
 use Prim.Native.Nat.{ℕ, zero, suc, _+_, _-_, _*_, _/_, _%_, _≤_, _<_}
 use native.Mathlib.Nat.{le-refl, not-suc-le-zero, mod-lt}
-use native.Mathlib.Numerals.{add-one}
 use native.Mathlib.Omega.{arith}
 use mathlib.Core.Path.{_≡_, refl, sym, _∙_, ap, ap₂, subst, fun-ext}
 use mathlib.Core.Logic.{_⊎_, ⊎-elim}
-use mathlib.Core.Bool.{Bool, true, false, cond}
+use mathlib.Core.Bool.{Bool, true, false}
 use mathlib.Core.List.{List, [], _∷_, _++_, map, map-append}
-use lib.Dec.{T, eqb, eqb→eq, eqb-refl, ltb→lt}
+use lib.Dec.{T, eqb, eqb→eq, eqb-refl}
 use lib.ListN.{length, getD, set, take, drop, length-append, length-map, length-set, take-append-drop, List·getD-append}
 use lib.Seq.{take-suc, take-all, drop-cons, getD-append-seam}
-use Rattle.logic.specs.Tests.{_and_, _or_, isnt, every, member, distinct, total, weigh, upto, pick}
+use Rattle.logic.specs.Tests.{_and_, _or_, isnt, member, distinct, total, weigh, upto, pick}
 use Rattle.logic.specs.Theory.{Theory, bodyOf}
-use Rattle.logic.proofs.Tests.{test-cases, true-of, of-true, of-false, test-eq, cond-true, cond-false, cond-cases, eq→eqb, and-intro, and-left, and-right, or-left, or-right, or-elim, isnt-intro, isnt-elim, lt-suc-cases, at-most, every-elim, some-intro}
-use Rattle.logic.proofs.Lists.{member-nil, member-here, member-there, member-cons-elim, member-snoc, member-last, member-left, member-map, member-pick, member-pick-intro, member-upto, member-upto-intro, distinct-upto, distinct-pick, distinct-apart}
+use Rattle.logic.proofs.Tests.{test-cases, true-of, of-true, of-false, test-eq, cond-false, cond-cases, eq→eqb, and-intro, and-left, and-right, or-left, or-right, or-elim, lt-suc-cases}
+use Rattle.logic.proofs.Lists.{member-nil, member-here, member-there, member-snoc, member-last, member-left, member-pick, member-pick-intro, member-upto, member-upto-intro, distinct-upto, distinct-pick, distinct-apart}
 use Rattle.logic.proofs.Sums.{weigh-true, weigh-false}
 use Rattle.logic.proofs.Literals.{join-div, join-mod, join-split, split-below}
 use Rattle.table.specs.declared.format.Sizes.{Sizes}
 use Rattle.table.specs.declared.judge.Judgement.the-variants.{Accepted}
-use Rattle.table.specs.Format.{theoryIn, bodyIn, entryAt, left, right, entriesFrom}
-use Rattle.table.specs.Refusals.{judgementOf, disorder, rises, sectionFrom, sectionSize, leftFrom}
-use Rattle.table.proofs.Legal.{legal, limited, left-in, right-in}
-use Rattle.table.proofs.Sorted.{before-left, entries-rise}
+use Rattle.table.specs.Format.{theoryIn}
+use Rattle.table.specs.Refusals.{judgementOf}
+use Rattle.table.proofs.Legal.{legal, limited}
 use Rattle.engine.specs.Memory.{view, useAt, mark, has, sizeF, usesF, usesFrom, heldOf, writtenOf, antecedents, extra, Indexed, Standing, Ready}
 use Rattle.engine.specs.Api.{Kept, Visited, Added, adds}
 use Rattle.engine.specs.Visits.{usesOf, Spread}
+use Rattle.engine.proofs.Costing.{pick-same, pick-more, bodies-apart}
 use Rattle.engine.proofs.Views.{view-set, view-set-index, view-set-field, use-set, rest-set}
 use Rattle.engine.proofs.Visits.{kept-trans, standing-marks}
 
@@ -77,81 +76,12 @@ module _ (d : Theory) (w : ℕ → ℕ → ℕ) (u : ℕ → ℕ) (x : Indexed d
   use-is q j h l =
       sym (getD-values (λ k. u (usesFrom w q + k)) (w usesF q - usesFrom w q) j (omega (arith, uses-count q h))) ∙ ap (λ z. getD z j 0) (x .uses q h)
 
--- the antecedents of a rule are distinct
-distinct-map : (f : ℕ → ℕ) (l : List ℕ) → T (distinct l) → ((a b : ℕ) → T (member a l) → T (member b l) → f a ≡ f b → a ≡ b) → T (distinct (map f l))
-unfolding distinct
-distinct-map f [] t g = tt
-distinct-map f (x ∷ l) t g =
-    and-intro _ _
-    (isnt-intro _ (λ m. let (y, v, e) = member-map f l (f x) m in
-    isnt-elim _ (and-left _ _ t) (subst (λ z. T (member z l)) (sym (g x y (member-here x l) (member-there y x l v) e)) v)))
-    (distinct-map f l (and-right _ _ t) (λ a b u v. g a b (member-there a x l u) (member-there b x l v)))
-
-module _ (b : List ℕ) (s : Sizes) (e : disorder b s ≡ false) where
-  entries-sorted : T (every (sectionSize s 1 - 1) (rises b s 1))
-  unfolding disorder
-  entries-sorted = ⊎-elim (λ t. t) (λ n. absurd (of-false _ e (some-intro 3 _ 1 (omega arith) (isnt-intro _ n)))) (test-cases (every (sectionSize s 1 - 1) (rises b s 1)))
-
-  next-entry : (i : ℕ) → suc i < s .entries → entryAt b s i .rule ≡ entryAt b s (suc i) .rule → entryAt b s i .literal .0 < entryAt b s (suc i) .literal .0
-  unfolding rises sectionFrom sectionSize leftFrom
-  next-entry i h f =
-      let t = every-elim _ _ entries-sorted i (omega arith) in
-      let n : i + 1 ≡ suc i = add-one i in
-      let l : left b (entriesFrom s + i) ≡ entryAt b s i .rule = sym (left-in b (entriesFrom s) (s .entries) i (omega arith)) in
-      let l' : left b (entriesFrom s + (i + 1)) ≡ entryAt b s (suc i) .rule = ap (λ z. left b (entriesFrom s + z)) n ∙ sym (left-in b (entriesFrom s) (s .entries) (suc i) h) in
-      let r : right b s (entriesFrom s + i) ≡ entryAt b s i .literal .0 = sym (right-in b s (entriesFrom s) (s .entries) i (omega arith)) in
-      let r' : right b s (entriesFrom s + (i + 1)) ≡ entryAt b s (suc i) .literal .0 = ap (λ z. right b s (entriesFrom s + z)) n ∙ sym (right-in b s (entriesFrom s) (s .entries) (suc i) h) in
-      ⊎-elim (λ u. let a : left b (entriesFrom s + i) < left b (entriesFrom s + (i + 1)) = ltb→lt _ _ u in absurd (omega arith))
-      (λ u. let a : right b s (entriesFrom s + i) < right b s (entriesFrom s + (i + 1)) = ltb→lt _ _ (and-right _ _ u) in omega arith) (or-elim _ _ t)
-
-  later-entry : (i j : ℕ) → i < j → j < s .entries → entryAt b s i .rule ≡ entryAt b s j .rule → entryAt b s i .literal .0 < entryAt b s j .literal .0
-  later-entry i zero l h f = absurd (not-suc-le-zero l)
-  later-entry i (suc j) l h f =
-      ⊎-elim
-      (λ k. let a : entryAt b s i .rule ≤ entryAt b s j .rule = before-left _ _ _ _ (entries-rise b s e i j k (omega arith)) in
-      let c : entryAt b s j .rule ≤ entryAt b s (suc j) .rule = before-left _ _ _ _ (entries-rise b s e j (suc j) (le-refl (suc j)) h) in
-      omega (arith, later-entry i j k (omega arith) (omega arith), next-entry j h (omega arith)))
-      (λ k. subst (λ z. entryAt b s z .literal .0 < entryAt b s (suc j) .literal .0) (sym k) (next-entry j h (sym (ap (λ z. entryAt b s z .rule) k) ∙ f))) (lt-suc-cases i j l)
-
-pub distinct-body : (b : List ℕ) (s : Sizes) → judgementOf b ≡ Accepted s → (r : ℕ) → T (distinct (bodyOf (theoryIn b s) r))
-unfolding theoryIn bodyIn
-distinct-body b s e r =
-    distinct-map (λ i. entryAt b s i .literal .0) (pick (upto (s .entries)) (λ i. eqb (entryAt b s i .rule) r)) (distinct-pick _ _ (distinct-upto (s .entries))) same
-  where
-    same : (i j : ℕ) → T (member i (pick (upto (s .entries)) (λ i. eqb (entryAt b s i .rule) r))) → T (member j (pick (upto (s .entries)) (λ i. eqb (entryAt b s i .rule) r)))
-        → entryAt b s i .literal .0 ≡ entryAt b s j .literal .0 → i ≡ j
-    same i j u v f =
-        let (ui, ri) = member-pick (upto (s .entries)) _ i u in
-        let (vj, rj) = member-pick (upto (s .entries)) _ j v in
-        let c : entryAt b s i .rule ≡ entryAt b s j .rule = eqb→eq _ _ ri ∙ sym (eqb→eq _ _ rj) in
-        ⊎-elim (λ h. ⊎-elim (λ k. omega arith) (λ k. absurd (omega (arith, later-entry b s (legal b s e .sorted) i j k (member-upto _ j vj) c))) (at-most j i))
-        (λ k. absurd (omega (arith, later-entry b s (legal b s e .sorted) j i k (member-upto _ i ui) (sym c)))) (at-most i j)
-
 -- one more of a distinct list passes
-pick-more : (l : List ℕ) (h k : ℕ → Bool) (p : ℕ) → T (distinct l) → (T (h p) → ⊥) → T (k p) → ((a : ℕ) → (a ≡ p → ⊥) → k a ≡ h a)
+pick-one-more : (l : List ℕ) (h k : ℕ → Bool) (p : ℕ) → T (distinct l) → (T (h p) → ⊥) → T (k p) → ((a : ℕ) → (a ≡ p → ⊥) → k a ≡ h a)
     → length (pick l k) ≡ length (pick l h) + weigh (member p l) 1
-unfolding pick distinct
-pick-more [] h k p t n y o = omega (arith, weigh-false (member p []) 1 (member-nil p))
-pick-more (x ∷ l) h k p t n y o =
-    ⊎-elim
-    (λ e. let i : x ≡ p = eqb→eq x p e in
-    let a : length (pick l k) ≡ length (pick l h) + weigh (member p l) 1 = pick-more l h k p (and-right _ _ t) n y o in
-    let z : weigh (member p l) 1 ≡ 0 = weigh-false _ 1 (λ m. isnt-elim _ (and-left _ _ t) (subst (λ q. T (member q l)) (sym i) m)) in
-    let f : weigh (member p (x ∷ l)) 1 ≡ 1 = weigh-true _ 1 (subst (λ q. T (member q (x ∷ l))) i (member-here x l)) in
-    let g : length (cond (k x) (x ∷ pick l k) (pick l k)) ≡ suc (length (pick l k)) = ap length (cond-true (k x) _ _ (subst (λ q. T (k q)) (sym i) y)) in
-    let g' : length (cond (h x) (x ∷ pick l h) (pick l h)) ≡ length (pick l h) = ap length (cond-false (h x) _ _ (λ u. n (subst (λ q. T (h q)) i u))) in omega arith)
-    (λ e. let i : x ≡ p → ⊥ = λ c. e (eq→eqb x p c) in
-    let a : length (pick l k) ≡ length (pick l h) + weigh (member p l) 1 = pick-more l h k p (and-right _ _ t) n y o in
-    let f : weigh (member p (x ∷ l)) 1 ≡ weigh (member p l) 1 =
-    ap (λ z. weigh z 1) (test-eq _ _ (λ m. ⊎-elim (λ c. absurd (i (sym c))) (λ v. v) (member-cons-elim p x l m)) (member-there p x l)) in
-    let g : length (cond (k x) (x ∷ pick l k) (pick l k)) ≡ length (cond (h x) (x ∷ pick l k) (pick l k)) = ap (λ c. length (cond c (x ∷ pick l k) (pick l k))) (o x i) in
-    both (h x) a f g) (test-cases (eqb x p))
-  where
-    both : (c : Bool) → length (pick l k) ≡ length (pick l h) + weigh (member p l) 1 → weigh (member p (x ∷ l)) 1 ≡ weigh (member p l) 1
-        → length (cond (k x) (x ∷ pick l k) (pick l k)) ≡ length (cond c (x ∷ pick l k) (pick l k))
-        → length (cond (k x) (x ∷ pick l k) (pick l k)) ≡ length (cond c (x ∷ pick l h) (pick l h)) + weigh (member p (x ∷ l)) 1
-    both true a f g = omega arith
-    both false a f g = omega arith
+pick-one-more l h k p t n y o =
+    ⊎-elim (λ m. omega (arith, pick-more l h k p t m n y o, weigh-true (member p l) 1 m))
+    (λ m. omega (arith, ap length (pick-same l h k (λ a u. o a (λ e. m (subst (λ z. T (member z l)) e u)))), weigh-false (member p l) 1 m)) (test-cases (member p l))
 
 pick-le : (l : List ℕ) (h : ℕ → Bool) → length (pick l h) ≤ length l
 unfolding pick
@@ -244,7 +174,7 @@ module _ (d : Theory) (bodies : (r : ℕ) → T (distinct (bodyOf d r))) (p t : 
           let z : weigh (eqb t t and member r (take (k - usesFrom (view m₀) p) (usesOf d p))) 1 ≡ 0 = weigh-false _ 1 (λ v. new (and-right _ _ v)) in
           let c : view m₀ (has t) r ≡ extra t + length (pick (bodyOf d r) (heldWith m₀ t)) = ready .told t r tag use-below in
           let y : length (pick (bodyOf d r) (λ a. heldWith m₀ t a or eqb a p)) ≡ length (pick (bodyOf d r) (heldWith m₀ t)) + weigh (member p (bodyOf d r)) 1 =
-          pick-more (bodyOf d r) (heldWith m₀ t) (λ a. heldWith m₀ t a or eqb a p) p (bodies r) (of-false _ n) (or-right _ _ (eqb-refl p)) (λ a o. test-eq _ _ (λ v. ⊎-elim (λ x. x) (λ x. absurd (o (eqb→eq a p x))) (or-elim _ _ v)) (or-left _ _)) in
+          pick-one-more (bodyOf d r) (heldWith m₀ t) (λ a. heldWith m₀ t a or eqb a p) p (bodies r) (of-false _ n) (or-right _ _ (eqb-refl p)) (λ a o. test-eq _ _ (λ v. ⊎-elim (λ x. x) (λ x. absurd (o (eqb→eq a p x))) (or-elim _ _ v)) (or-left _ _)) in
           let x : weigh (member p (bodyOf d r)) 1 ≡ 1 = weigh-true _ 1 in-body in
           omega (arith, pick-le (bodyOf d r) (λ a. heldWith m₀ t a or eqb a p), extra-le t, w .standing .index .sizes r use-below)
 
@@ -345,7 +275,7 @@ module _ (d : Theory) (bodies : (r : ℕ) → T (distinct (bodyOf d r))) (few : 
       here t =
           let i : u ≡ x % 4 = eqb→eq _ _ t in
           let j : 4 * (x / 4) + u ≡ x = ap (4 * (x / 4) +_) i ∙ join-split 4 x in
-          pick-more (bodyOf d r) (heldWith m u) (heldWith n' u) (x / 4) (bodies r) (of-false _ (ap (heldOf m) j ∙ out))
+          pick-one-more (bodyOf d r) (heldWith m u) (heldWith n' u) (x / 4) (bodies r) (of-false _ (ap (heldOf m) j ∙ out))
           (of-true _ (ap (heldOf n') j ∙ ap (λ z. eqb z 2) mark-here))
           (λ a o. same a (λ c. o (sym (join-div 4 a u l) ∙ ap (_/ 4) c)))
           ∙ ap (λ z. length (pick (bodyOf d r) (heldWith m u)) + weigh z 1) (test-eq (member (x / 4) (bodyOf d r)) (eqb u (x % 4) and member (x / 4) (bodyOf d r)) (and-intro _ _ t) (and-right _ _))
@@ -371,18 +301,18 @@ module _ (b : List ℕ) (s : Sizes) (m₀ : List ℕ) (p t : ℕ)
   in-theory = a .2
 
   pub uses-start-of : (k : ℕ) → k ≡ usesFrom (view m₀) p → Spreading (theoryIn b s) p t m₀ m₀ k
-  uses-start-of = spread-start (theoryIn b s) (distinct-body b s (a .0)) p t in-theory (a .3) m₀ (a .1)
+  uses-start-of = spread-start (theoryIn b s) (bodies-apart b s (a .0)) p t in-theory (a .3) m₀ (a .1)
 
   module _ (m : List ℕ) (k : ℕ) (w : Spreading (theoryIn b s) p t m₀ m k) (end : ℕ) (e : end ≡ view m₀ usesF p) where
     pub uses-end-of : end ≤ k → Spread (theoryIn b s) p t m₀ m
-    uses-end-of h = spread-end (theoryIn b s) (distinct-body b s (a .0)) p t in-theory (a .3) m₀ (a .1) m k w (omega arith)
+    uses-end-of h = spread-end (theoryIn b s) (bodies-apart b s (a .0)) p t in-theory (a .3) m₀ (a .1) m k w (omega arith)
 
     module _ (h : k < end) where
       on : k < view m₀ usesF p
       on = omega arith
 
       pub use-small : (k < 4096) × (32768 ≤ length m)
-      use-small = (spread-small (theoryIn b s) (distinct-body b s (a .0)) p t in-theory (a .3) m₀ (a .1) m k w on, w .standing .room)
+      use-small = (spread-small (theoryIn b s) (bodies-apart b s (a .0)) p t in-theory (a .3) m₀ (a .1) m k w on, w .standing .room)
 
       pub visit-asks : (r : ℕ) → r ≡ useAt m k
           → (judgementOf b ≡ Accepted s) × Standing (theoryIn b s) m × (r < s .rules) × (t < 4) × (view m (has t) r < view m sizeF r)
@@ -390,13 +320,13 @@ module _ (b : List ℕ) (s : Sizes) (m₀ : List ℕ) (p t : ℕ)
       visit-asks r f = (
         a .0,
         w .standing,
-        use-below (theoryIn b s) (distinct-body b s (a .0)) p t in-theory (a .3) m₀ (a .1) m k w on r f,
+        use-below (theoryIn b s) (bodies-apart b s (a .0)) p t in-theory (a .3) m₀ (a .1) m k w on r f,
         a .3,
-        use-asks (theoryIn b s) (distinct-body b s (a .0)) p t in-theory (a .3) m₀ (a .1) m k w on r f (a .4),
+        use-asks (theoryIn b s) (bodies-apart b s (a .0)) p t in-theory (a .3) m₀ (a .1) m k w on r f (a .4),
       )
 
       pub uses-next-of : (r : ℕ) → r ≡ useAt m k → (n : List ℕ) → Visited (theoryIn b s) t r m n → Spreading (theoryIn b s) p t m₀ n (k + 1)
-      uses-next-of r f n v = spread-next (theoryIn b s) (distinct-body b s (a .0)) p t in-theory (a .3) m₀ (a .1) m k w on r f n v
+      uses-next-of r f n v = spread-next (theoryIn b s) (bodies-apart b s (a .0)) p t in-theory (a .3) m₀ (a .1) m k w on r f n v
 
 -- and the whole
 module _ (b : List ℕ) (s : Sizes) (m : List ℕ) (x p t : ℕ) (e : p ≡ x / 4) (f : t ≡ x % 4)
@@ -420,5 +350,5 @@ module _ (b : List ℕ) (s : Sizes) (m : List ℕ) (x p t : ℕ) (e : p ≡ x / 
   pub added-of : (n n' : List ℕ) (i j : ℕ) → i ≡ t → j ≡ p → Spread (theoryIn b s) p t m n → n' ≡ set n (1024 * i + j) 2 → Added (theoryIn b s) x m n'
   unfolding theoryIn
   added-of n n' i j g h w c =
-      add-end (theoryIn b s) (distinct-body b s (a .0)) atoms-few x quarter m (a .1) (a .3) (a .4) n
+      add-end (theoryIn b s) (bodies-apart b s (a .0)) atoms-few x quarter m (a .1) (a .3) (a .4) n
       (subst (λ z. Spread (theoryIn b s) (x / 4) z m n) f (subst (λ z. Spread (theoryIn b s) z t m n) e w)) n' (c ∙ ap₂ (λ y z. set n (1024 * y + z) 2) (g ∙ f) (h ∙ e))

@@ -103,7 +103,7 @@ pick-more (z ∷ l) p q x t m n u e =
         ∙ both-longer z (pick l p) (pick l q) (p z) s
 
 -- a map that tells the elements of a distinct list apart keeps it distinct
-pub distinct-map : (f : ℕ → ℕ) (l : List ℕ) → T (distinct l) → ((x y : ℕ) → T (member x l) → T (member y l) → f x ≡ f y → x ≡ y) → T (distinct (map f l))
+distinct-map : (f : ℕ → ℕ) (l : List ℕ) → T (distinct l) → ((x y : ℕ) → T (member x l) → T (member y l) → f x ≡ f y → x ≡ y) → T (distinct (map f l))
 unfolding distinct
 distinct-map f [] t o = tt
 distinct-map f (x ∷ l) t o =

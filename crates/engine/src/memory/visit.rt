@@ -22,6 +22,7 @@ use crate::memory::fields::KIND;
 use crate::memory::fields::LOST;
 use crate::memory::fields::RIVALS;
 use crate::memory::fields::SIZE;
+use crate::memory::tests::both;
 use crate::memory::uses::end_use;
 use crate::memory::uses::first_use;
 use crate::memory::words::bump;
@@ -37,12 +38,6 @@ fn wide(n: u16) -> usize
     ensures { λ r. ⌜ r ≡ n ⌝ }
 {
     n as usize
-}
-
-fn both(a: bool, b: bool) -> bool
-    ensures { λ r. ⌜ r ≡ a and b ⌝ }
-{
-    if a { b } else { false }
 }
 
 // One more, if the test says so.
