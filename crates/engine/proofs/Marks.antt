@@ -5,108 +5,21 @@ use native.Mathlib.Nat.{div-add-mod}
 use native.Mathlib.Omega.{arith}
 use mathlib.Core.Path.{_≡_, refl, sym, _∙_, ap, ap₂, subst, fun-ext}
 use mathlib.Core.Logic.{⊎-elim}
-use mathlib.Core.Bool.{Bool, true, false, cond, not}
+use mathlib.Core.Bool.{Bool, true, false, not}
 use mathlib.Core.List.{List}
-use lib.Dec.{T, ltb, eqb, eqb→eq, eqb-refl}
+use lib.Dec.{T, eqb, eqb→eq, eqb-refl}
 use lib.ListN.{length, set, length-set}
-use borrow.Author.Tests.{ltb-false}
 use Rattle.logic.specs.Tests.{_or_, isnt}
 use Rattle.logic.specs.Theory.{Theory, Kind, strict, defeasible, defeater, isStrict}
 use Rattle.logic.proofs.Literals.{join-div, join-mod}
-use Rattle.logic.proofs.Tests.{test-cases, test-eq, true-of, false-of, of-false, cond-true, cond-false, eq→eqb, or-left, or-right, or-elim, isnt-intro}
-use Rattle.engine.specs.Memory.{view, useAt, mark, has, Indexed, Counted, Standing, Ready, fires, isOut, heldOf, writtenOf, antecedents, extra, kindNumber, usesF, usesFrom}
+use Rattle.logic.proofs.Tests.{test-cases, test-eq, true-of, of-false, cond-true, cond-false, eq→eqb, or-left, or-right, or-elim, isnt-intro}
+use Rattle.engine.specs.Memory.{view, mark, has, Standing, Ready, heldOf, writtenOf, antecedents, extra, kindNumber, usesF, usesFrom}
 use Rattle.engine.specs.Api.{Kept, Wrote, adds}
+use Rattle.engine.proofs.Visits.{standing-marks}
 use Rattle.engine.proofs.Views.{view-set, view-set-index, view-set-field, use-set, rest-set}
-
-not-below : (a b : ℕ) → (T (ltb a b) → ⊥) → b ≤ a
-not-below a b n = ltb-false a b (false-of _ n)
 
 pub or-false : (a c : Bool) → (T c → ⊥) → (a or c) ≡ a
 or-false a c n = test-eq _ _ (λ t. ⊎-elim (λ u. u) (λ u. absurd (n u)) (or-elim a c t)) (or-left a c)
-
--- the fields but the marks
-abbrev late : (ℕ → ℕ → ℕ) → ℕ → ℕ → ℕ
-late w f i = cond (ltb f 4) 0 (w f i)
-
--- the index and the counts look at no mark
-indexed-late : (d : Theory) (w : ℕ → ℕ → ℕ) (u : ℕ → ℕ) → Indexed d w u → Indexed d (late w) u
-indexed-late d w u x =
-    record {
-      sizes = x .sizes;
-      heads = x .heads;
-      kinds = x .kinds;
-      namings = x .namings;
-      rivals = x .rivals;
-      firsts = x .firsts;
-      uses = x .uses;
-      within = x .within;
-      stricts = x .stricts;
-      supports = x .supports;
-      headed = x .headed;
-      facts = x .facts;
-    }
-
-late-indexed : (d : Theory) (w : ℕ → ℕ → ℕ) (u : ℕ → ℕ) → Indexed d (late w) u → Indexed d w u
-late-indexed d w u x =
-    record {
-      sizes = x .sizes;
-      heads = x .heads;
-      kinds = x .kinds;
-      namings = x .namings;
-      rivals = x .rivals;
-      firsts = x .firsts;
-      uses = x .uses;
-      within = x .within;
-      stricts = x .stricts;
-      supports = x .supports;
-      headed = x .headed;
-      facts = x .facts;
-    }
-
--- the counts by the words of the rules
-abbrev CountedBy : Theory → (ℕ → ℕ → ℕ) → Type 0
-CountedBy d w = Counted d w (λ i. fires w 2 (d .pair i .stronger)) (λ i. isOut w 3 (d .pair i .stronger))
-
-counted-late : (d : Theory) (w : ℕ → ℕ → ℕ) → CountedBy d w → CountedBy d (late w)
-counted-late d w x =
-    record {
-      beaten = x .beaten;
-      lost = x .lost;
-      proved = x .proved;
-      refuted = x .refuted;
-      firing = x .firing;
-      out = x .out;
-      countered = x .countered;
-      unopposed = x .unopposed;
-    }
-
-late-counted : (d : Theory) (w : ℕ → ℕ → ℕ) → CountedBy d (late w) → CountedBy d w
-late-counted d w x =
-    record {
-      beaten = x .beaten;
-      lost = x .lost;
-      proved = x .proved;
-      refuted = x .refuted;
-      firing = x .firing;
-      out = x .out;
-      countered = x .countered;
-      unopposed = x .unopposed;
-    }
-
--- two memories that agree in all fields but the marks, and in the uses, stand alike
-module _ (d : Theory) (m n : List ℕ) (fields : (f i : ℕ) → 4 ≤ f → view n f i ≡ view m f i) (uses : (k : ℕ) → useAt n k ≡ useAt m k) where
-  same-late : late (view m) ≡ late (view n)
-  same-late =
-      fun-ext (λ f. fun-ext (λ i. ⊎-elim (λ t. cond-true (ltb f 4) _ _ t ∙ sym (cond-true (ltb f 4) _ _ t))
-      (λ o. ap (λ z. cond (ltb f 4) 0 z) (sym (fields f i (not-below f 4 o)))) (test-cases (ltb f 4))))
-
-  pub same-standing : 32768 ≤ length n → Standing d m → Standing d n
-  same-standing l s =
-      record {
-        room = l;
-        index = late-indexed d (view n) (useAt n) (subst (λ w. Indexed d w (useAt n)) same-late (subst (λ u. Indexed d (late (view m)) u) (fun-ext (λ k. sym (uses k))) (indexed-late d (view m) (useAt m) (s .index))));
-        counts = late-counted d (view n) (subst (λ w. CountedBy d w) same-late (counted-late d (view m) (s .counts)));
-      }
 
 -- the mark of a conclusion
 abbrev pub markAt : ℕ → ℕ
@@ -138,7 +51,7 @@ module _ (m : List ℕ) (x v : ℕ) (b : x < 4096) (l : 32768 ≤ length m) wher
 
   pub mark-standing : (d : Theory) → Standing d m → Standing d (set m (markAt x) v)
   mark-standing d s =
-      same-standing d m (set m (markAt x) v) mark-field (use-set m (x % 4) (x / 4) v tag place) (omega (arith, mark-kept .size)) s
+      standing-marks d m (set m (markAt x) v) mark-field (use-set m (x % 4) (x / 4) v tag place) mark-kept s
 
 -- a conclusion is written that was not
 module _ (d : Theory) (m : List ℕ) (x : ℕ) (b : x < 4096) (r : Ready d m) (none : writtenOf m x ≡ false) where
