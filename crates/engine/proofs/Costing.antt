@@ -340,9 +340,6 @@ module _ (b : List ℕ) (s : Sizes) (m : List ℕ) (x : ℕ) (accepted : judgeme
   few : (s .atoms ≤ 512) × (s .rules ≤ 1024)
   few = (limited s (legal b s accepted .limits) .atoms, limited s (legal b s accepted .limits) .rules)
 
-  pub small-index : x / 4 < 1024
-  small-index = let h : x / 4 < 2 * s .atoms = literal in let l : s .atoms ≤ 512 = few .0 in omega arith
-
   module _ {first end : ℕ} (f : first ≡ usesFrom (view m) (x / 4)) (e : end ≡ view m usesF (x / 4)) where
     pub uses-within : (first ≤ end) × (end ≤ 4096)
     unfolding theoryIn

@@ -20,6 +20,7 @@ use Rattle.table.specs.declared.judge.Judgement.the-variants.{Accepted}
 use Rattle.table.specs.Format.{theoryIn}
 use Rattle.table.specs.Refusals.{judgementOf}
 use Rattle.engine.specs.Memory.{Indexed, Ready, view, useAt, usesFrom, usesF}
+use Rattle.engine.specs.Api.{UsesAt}
 use Rattle.engine.specs.Working.{Logged, Tried, familyIf, headsIf}
 use Rattle.engine.proofs.Trying.{atoms-in, rules-in, proper-in, tried-none, tried-same, tried-literals}
 
@@ -93,6 +94,12 @@ module _ (d : Theory) where
     same-from (suc q) h =
         uses-from-suc w′ q ∙ users-length w′ u′ g′ q (omega arith) ∙ ap (λ k. k + length (users d q)) (same-from q (omega arith))
         ∙ sym (users-length w u g q (omega arith)) ∙ sym (uses-from-suc w q)
+
+    pub same-uses : (q : ℕ) → q < 2 * d .atoms → {first end : ℕ} → UsesAt w q first end → UsesAt w′ q first end
+    same-uses q h (e, f) = (
+      e ∙ sym (same-from q h),
+      f ∙ users-length w u g q h ∙ ap (λ k. k + length (users d q)) (sym (same-from q h)) ∙ sym (users-length w′ u′ g′ q h),
+    )
 
   use-at : (w : ℕ → ℕ → ℕ) (u : ℕ → ℕ) → Indexed d w u → (q : ℕ) → q < 2 * d .atoms → (i : ℕ) → i < length (users d q) → u (usesFrom w q + i) ≡ getD (users d q) i 0
   unfolding users

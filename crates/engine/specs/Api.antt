@@ -7,11 +7,15 @@ use lib.Dec.{eqb}
 use lib.ListN.{length, drop}
 use Rattle.logic.specs.Tests.{_or_}
 use Rattle.logic.specs.Theory.{Theory}
-use Rattle.engine.specs.Memory.{Standing, Ready, view, has, mark, sizeF, heldOf, writtenOf}
+use Rattle.engine.specs.Memory.{Standing, Ready, view, has, mark, sizeF, usesF, usesFrom, heldOf, writtenOf}
 
 -- a test with one number more
 abbrev pub adds : (ℕ → Bool) → ℕ → ℕ → Bool
 adds h x y = h y or eqb y x
+
+-- the uses of literal p stand from the first to the end
+abbrev pub UsesAt : (ℕ → ℕ → ℕ) → ℕ → ℕ → ℕ → Type 0
+UsesAt w p first end = (first ≡ usesFrom w p) × (end ≡ w usesF p)
 
 -- the words past the memory, and their number, stay
 pub record Kept (m n : List ℕ) : Type 0 where

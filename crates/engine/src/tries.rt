@@ -10,13 +10,13 @@ ghost use Rattle.logic.specs.Reading.{heads, visited, withTags};
 ghost use Rattle.table.specs.declared.judge.Judgement.the-variants.{Accepted};
 ghost use Rattle.table.specs.Format.{theoryIn};
 ghost use Rattle.table.specs.Refusals.{judgementOf};
-ghost use Rattle.engine.specs.Memory.{writtenOf};
+ghost use Rattle.engine.specs.Memory.{view, writtenOf};
+ghost use Rattle.engine.specs.Api.{UsesAt};
 ghost use Rattle.engine.specs.Working.{Logged, Tried, headsIf, familyIf};
 use crate::memory::marks::is_settled;
 use crate::memory::marks::write;
 use crate::memory::tests::follows;
-use crate::memory::uses::end_use;
-use crate::memory::uses::first_use;
+use crate::memory::uses::Uses;
 use crate::memory::uses::head_of;
 use crate::memory::uses::is_strict;
 use crate::memory::words::load_use;
@@ -130,13 +130,14 @@ pub fn try_uses(
     lines: u32,
     p: u16,
     definite: bool,
+    uses: Uses,
 ) -> u32
-    requires { ⌜ (judgementOf (now table) ≡ Accepted s) × (p < 2 * s .atoms) × Logged (theoryIn (now table) s) (now mem) (now log) lines ⌝ }
+    requires { ⌜ (judgementOf (now table) ≡ Accepted s) × (p < 2 * s .atoms) × Logged (theoryIn (now table) s) (now mem) (now log) lines × UsesAt (view (now mem)) p (uses .first) (uses .end) ⌝ }
     ensures { λ r. ⌜ Tried (theoryIn (now (table .entry)) s) (withTags 4 (heads (theoryIn (now (table .entry)) s) (visited (theoryIn (now (table .entry)) s) (familyIf definite) p))) (now (mem .entry)) (now (log .entry)) lines (now (mem .exit)) (now (log .exit)) r ⌝ }
 {
-    let end = end_use(mem, p);
     let mut n = lines;
-    let mut k = first_use(mem, p);
+    let end = uses.end;
+    let mut k = uses.first;
     while k < end {
         let r = load_use(mem, k);
         n = try_rule(table, s, mem, log, n, r, definite);

@@ -1,5 +1,5 @@
 // What follows from what is processed, and what a conclusion costs.
-ghost use Prim.Native.Nat.{_*_, _≤_, _<_};
+ghost use Prim.Native.Nat.{_*_, _/_, _≤_, _<_};
 ghost use mathlib.Core.Path.{_≡_};
 ghost use mathlib.Core.Bool.{false};
 ghost use lib.ListN.{length};
@@ -10,7 +10,7 @@ ghost use Rattle.table.specs.declared.judge.Judgement.the-variants.{Accepted};
 ghost use Rattle.table.specs.Format.{theoryIn};
 ghost use Rattle.table.specs.Refusals.{judgementOf};
 ghost use Rattle.engine.specs.Memory.{Ready, view, heldOf};
-ghost use Rattle.engine.specs.Api.{adds};
+ghost use Rattle.engine.specs.Api.{UsesAt, adds};
 ghost use Rattle.engine.specs.Deciding.{processed, definitelyBy, notDefinitelyBy, defeasiblyBy, notDefeasiblyBy, decidedBy, chargeBy};
 use crate::memory::fields::COUNTERED;
 use crate::memory::fields::FACT;
@@ -27,8 +27,7 @@ use crate::memory::fields::SIZE;
 use crate::memory::fields::STRICT;
 use crate::memory::fields::SUPPORT;
 use crate::memory::fields::UNOPPOSED;
-use crate::memory::uses::end_use;
-use crate::memory::uses::first_use;
+use crate::memory::uses::Uses;
 use crate::memory::words::load;
 use crate::memory::words::load_use;
 use table::format::Literal;
@@ -167,15 +166,14 @@ fn charge(mem: &[u16], r: usize, t: u16) -> u32
 }
 
 // The cost of processing a conclusion that is not processed.
-pub fn cost(table: &[u8], s: Sizes, mem: &[u16], x: u16) -> u32
-    requires { ⌜ (judgementOf (now table) ≡ Accepted s) × Ready (theoryIn (now table) s) (now mem) × (x < 8 * s .atoms) × (heldOf (now mem) x ≡ false) ⌝ }
+pub fn cost(table: &[u8], s: Sizes, mem: &[u16], x: u16, uses: Uses) -> u32
+    requires { ⌜ (judgementOf (now table) ≡ Accepted s) × Ready (theoryIn (now table) s) (now mem) × (x < 8 * s .atoms) × (heldOf (now mem) x ≡ false) × UsesAt (view (now mem)) (x / 4) (uses .first) (uses .end) ⌝ }
     ensures { λ r. ⌜ r ≡ plainSystem (theoryIn (now (table .entry)) s) .cost (heldOf (now (mem .entry))) (adds (heldOf (now (mem .entry))) x) x ⌝ }
 {
     let t = x % 4;
-    let first = first_use(mem, x / 4);
-    let end = end_use(mem, x / 4);
     let mut sum: u32 = 1;
-    let mut k = first;
+    let end = uses.end;
+    let mut k = uses.first;
     while k < end {
         sum += charge(mem, load_use(mem, k) as usize, t);
         k += 1;

@@ -1,5 +1,5 @@
 // A conclusion is processed: every count that changes grows by one at a time, and then the mark is set.
-ghost use Prim.Native.Nat.{_+_, _*_, _≤_, _<_};
+ghost use Prim.Native.Nat.{_+_, _*_, _/_, _≤_, _<_};
 ghost use mathlib.Core.Path.{_≡_};
 ghost use mathlib.Core.Bool.{true, false};
 ghost use lib.Dec.{T};
@@ -10,7 +10,7 @@ ghost use Rattle.table.specs.declared.judge.Judgement.the-variants.{Accepted};
 ghost use Rattle.table.specs.Format.{theoryIn};
 ghost use Rattle.table.specs.Refusals.{judgementOf};
 ghost use Rattle.engine.specs.Memory.{Standing, Ready, view, has, sizeF, headF, heldOf, writtenOf};
-ghost use Rattle.engine.specs.Api.{Visited, Added};
+ghost use Rattle.engine.specs.Api.{UsesAt, Visited, Added};
 ghost use Rattle.engine.specs.Visits.{Sound, Raised, aim, hits, reached, decidedFor, spoken, spokenTo, isFree, turned, Open, Steady, Decided, Heard, Spread};
 use crate::memory::fields::BEATEN;
 use crate::memory::fields::FIRST;
@@ -23,8 +23,7 @@ use crate::memory::fields::LOST;
 use crate::memory::fields::RIVALS;
 use crate::memory::fields::SIZE;
 use crate::memory::tests::both;
-use crate::memory::uses::end_use;
-use crate::memory::uses::first_use;
+use crate::memory::uses::Uses;
 use crate::memory::words::bump;
 use crate::memory::words::load;
 use crate::memory::words::load_use;
@@ -187,13 +186,13 @@ fn visit(table: &[u8], s: Sizes, mem: &mut [u16], r: usize, t: usize)
 }
 
 // Every rule with literal p in its body is visited with tag t.
-fn visit_uses(table: &[u8], s: Sizes, mem: &mut [u16], p: u16, t: u16)
+fn visit_uses(table: &[u8], s: Sizes, mem: &mut [u16], p: u16, t: u16, uses: Uses)
     requires { ⌜ (judgementOf (now table) ≡ Accepted s) × Ready (theoryIn (now table) s) (now mem) × (p < 2 * s .atoms) × (t < 4) × (heldOf (now mem) (4 * p + t) ≡ false) ⌝ }
-    requires { ⌜ (p < 1024) × (32768 ≤ length (now mem)) ⌝ }
+    requires { ⌜ (p < 1024) × (32768 ≤ length (now mem)) × UsesAt (view (now mem)) p (uses .first) (uses .end) ⌝ }
     ensures { λ _. ⌜ Spread (theoryIn (now (table .entry)) s) p t (now (mem .entry)) (now (mem .exit)) ⌝ }
 {
-    let end = end_use(mem, p);
-    let mut k = first_use(mem, p);
+    let end = uses.end;
+    let mut k = uses.first;
     while k < end {
         let r = load_use(mem, k);
         visit(table, s, mem, wide(r), wide(t));
@@ -202,12 +201,13 @@ fn visit_uses(table: &[u8], s: Sizes, mem: &mut [u16], p: u16, t: u16)
 }
 
 // Conclusion x is processed.
-pub fn add(table: &[u8], s: Sizes, mem: &mut [u16], x: u16)
+pub fn add(table: &[u8], s: Sizes, mem: &mut [u16], x: u16, uses: Uses)
     requires { ⌜ (judgementOf (now table) ≡ Accepted s) × Ready (theoryIn (now table) s) (now mem) × (x < 8 * s .atoms) × (writtenOf (now mem) x ≡ true) × (heldOf (now mem) x ≡ false) ⌝ }
+    requires { ⌜ UsesAt (view (now mem)) (x / 4) (uses .first) (uses .end) ⌝ }
     ensures { λ _. ⌜ Added (theoryIn (now (table .entry)) s) x (now (mem .entry)) (now (mem .exit)) ⌝ }
 {
     let p = x / 4;
     let t = x % 4;
-    visit_uses(table, s, mem, p, t);
+    visit_uses(table, s, mem, p, t, uses);
     store(mem, wide(t), wide(p), 2);
 }

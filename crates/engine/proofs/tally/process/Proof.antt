@@ -1,6 +1,6 @@
 -- `engine::tally::process` meets its contract. Assumes nothing.
 use native.Mathlib.Omega.{arith}
-use Rattle.engine.proofs.Trying.{few, atoms-in, proper-in, lines-most}
+use Rattle.engine.proofs.Trying.{few, atoms-in}
 use Rattle.engine.proofs.Tallies.{stepped-stops, stepped-works}
 use borrow.Author.Needs.{needs}
 use Rattle.engine.proofs.tally.process.Statement.{statement}
@@ -12,8 +12,11 @@ mul-x c = search needs
 slice-read-x : tie.Need-slice-read-x
 slice-read-x c = search needs
 
+uses-of-requires : tie.Need-uses-of-requires
+uses-of-requires c κs = (omega (arith, few _ _ (c .before .before .before .before .before .pre .0) .atoms, atoms-in (c .before .before .before .before .before .args .table .now) (c .before .before .before .before .before .args .s), (c .before .before .before .before .before .pre .1 .small)), (c .before .before .before .before .before .pre .1 .logged .ready .standing .room))
+
 cost-requires : tie.Need-cost-requires
-cost-requires c κs = (c .before .before .before .before .before .pre .0, c .before .before .before .before .before .pre .1 .logged .ready, omega (arith, atoms-in (c .before .before .before .before .before .args .table .now) (c .before .before .before .before .before .args .s), c .before .before .before .before .before .pre .1 .small), c .before .before .before .before .before .pre .1 .new)
+cost-requires c κs = ((c .before .before .before .before .before .before .before .pre .0), (c .before .before .before .before .before .before .before .pre .1 .logged .ready), omega (arith, atoms-in (c .before .before .before .before .before .before .before .args .table .now) (c .before .before .before .before .before .before .before .args .s), (c .before .before .before .before .before .before .before .pre .1 .small)), (c .before .before .before .before .before .before .before .pre .1 .new), (c .before .uses-of .ensures))
 
 sub-if1 : tie.Need-sub-if1
 sub-if1 c = search needs
@@ -25,13 +28,13 @@ returns : tie.Need-returns
 returns c = stepped-stops _ _ _ _ _ _ _ (c .before .cost .ensures) (c .if1 .taken)
 
 try-after-requires : tie.Need-try-after-requires
-try-after-requires c κs = (c .before .before .before .before .before .before .before .before .before .pre .0, c .before .before .before .before .before .before .before .before .before .pre .1 .logged, omega (arith, atoms-in (c .before .before .before .before .before .before .before .before .before .args .table .now) (c .before .before .before .before .before .before .before .before .before .args .s), c .before .before .before .before .before .before .before .before .before .pre .1 .small), c .before .before .before .before .before .before .before .before .before .pre .1 .written, c .before .before .before .before .before .before .before .before .before .pre .1 .new)
+try-after-requires c κs = (((c .before .before .before .before .before .before .before .before .before .before .before .pre .0), (c .before .before .before .before .before .before .before .before .before .before .before .pre .1 .logged), omega (arith, atoms-in (c .before .before .before .before .before .before .before .before .before .before .before .args .table .now) (c .before .before .before .before .before .before .before .before .before .before .before .args .s), (c .before .before .before .before .before .before .before .before .before .before .before .pre .1 .small)), (c .before .before .before .before .before .before .before .before .before .before .before .pre .1 .written), (c .before .before .before .before .before .before .before .before .before .before .before .pre .1 .new)), (c .before .before .before .before .before .uses-of .ensures))
 
-add-t18 : tie.Need-add-t18
-add-t18 c = omega (arith, c .before .before .before .before .before .before .before .before .before .before .before .before .before .before .pre .1 .more, lines-most _ (proper-in _ _ (c .before .before .before .before .before .before .before .before .before .before .before .before .before .before .pre .0)) _ _ _ (c .before .before .before .before .before .before .before .before .before .before .before .before .before .before .pre .1 .logged), atoms-in (c .before .before .before .before .before .before .before .before .before .before .before .before .before .before .args .table .now) (c .before .before .before .before .before .before .before .before .before .before .before .before .before .before .args .s), few _ _ (c .before .before .before .before .before .before .before .before .before .before .before .before .before .before .pre .0) .atoms)
+add-t21 : tie.Need-add-t21
+add-t21 c = search needs
 
-add-t25 : tie.Need-add-t25
-add-t25 c = omega (arith, c .before .before .before .before .before .before .before .before .before .before .before .before .before .before .pre .1 .within, c .before .before .before .before .before .before .before .if1 .left)
+add-t28 : tie.Need-add-t28
+add-t28 c = search needs
 
 same-length-2 : tie.Need-same-length-2
 same-length-2 c = search needs
@@ -48,13 +51,14 @@ process-spec =
     (tie.spec
     mul-x
     slice-read-x
+    uses-of-requires
     cost-requires
     sub-if1
     same-length
     returns
     try-after-requires
-    add-t18
-    add-t25
+    add-t21
+    add-t28
     same-length-2
     same-length-3
     returns-2)

@@ -4,34 +4,28 @@ use native.Mathlib.Omega.{arith}
 use mathlib.Core.Path.{_≡_, _∙_, ap}
 use Rattle.engine.specs.Memory.{view, useAt}
 use Rattle.engine.specs.Deciding.{chargeBy}
-use Rattle.engine.proofs.Costing.{costSoFar, small-index, uses-within, rule-used, cost-none, cost-next, cost-all}
+use Rattle.engine.proofs.Costing.{costSoFar, uses-within, rule-used, cost-none, cost-next, cost-all}
 use borrow.Author.Needs.{needs}
 use Rattle.engine.proofs.memory.tests.cost.Statement.{statement}
 use Rattle.engine.proofs.memory.tests.cost.Tie as tie
 
 abbrev Inv-loop : tie.InvT-loop
-Inv-loop table mem x t first end sum₀ k₀ sum k = (first ≤ k) × (k ≤ end) × (end ≤ 4096) × (sum ≡ costSoFar (λ i. chargeBy (view mem) t (useAt mem i)) first k) × (sum ≤ 1 + 65536 * k)
+Inv-loop table mem x t sum₀ end k₀ sum k = (k₀ ≤ k) × (k ≤ end) × (end ≤ 4096) × (sum ≡ costSoFar (λ i. chargeBy (view mem) t (useAt mem i)) k₀ k) × (sum ≤ 1 + 65536 * k)
 
 abbrev μ-loop : tie.MeasureT-loop
-μ-loop table mem x t first end sum₀ k₀ sum k = end - k
-
-first-use-requires : tie.Need-first-use-requires Inv-loop μ-loop
-first-use-requires c κs = (small-index _ _ _ _ (c .before .before .pre .0) (c .before .before .pre .1) (c .before .before .pre .2), c .before .before .pre .1 .standing .room)
-
-end-use-requires : tie.Need-end-use-requires Inv-loop μ-loop
-end-use-requires c κs = (small-index _ _ _ _ (c .before .before .before .pre .0) (c .before .before .before .pre .1) (c .before .before .before .pre .2), c .before .before .before .pre .1 .standing .room)
+μ-loop table mem x t sum₀ end k₀ sum k = end - k
 
 loop-holds : tie.Need-loop-holds Inv-loop μ-loop
-loop-holds c = let w = uses-within _ _ _ _ (c .before .before .before .before .pre .0) (c .before .before .before .before .pre .1) (c .before .before .before .before .pre .2) (c .before .first-use .ensures) (c .end-use .ensures) in (omega arith, w .0, w .1, cost-none (λ i. chargeBy (view (c .before .before .before .before .args .mem .now)) (c .before .before .before .before .args .x % 4) (useAt (c .before .before .before .before .args .mem .now) i)) _, omega arith)
+loop-holds c = let w = uses-within _ _ _ _ (c .before .before .pre .0) (c .before .before .pre .1) (c .before .before .pre .2) (c .before .before .pre .4 .0) (c .before .before .pre .4 .1) in (omega arith, w .0, w .1, cost-none (λ i. chargeBy (view (c .before .before .args .mem .now)) ((c .before .before .args .x) % 4) (useAt (c .before .before .args .mem .now) i)) _, omega arith)
 
 load-use-requires : tie.Need-load-use-requires Inv-loop μ-loop
-load-use-requires c κs = (omega (arith, c .before .loop .inv .2), c .before .before .before .before .before .before .pre .1 .standing .room)
+load-use-requires c κs = (omega (arith, (c .before .loop .inv .2)), (c .before .before .before .before .pre .1 .standing .room))
 
 cast-charge : tie.Need-cast-charge Inv-loop μ-loop
 cast-charge c = search needs
 
 charge-requires : tie.Need-charge-requires Inv-loop μ-loop
-charge-requires c κs = (omega (arith, rule-used _ _ _ _ (c .before .before .before .before .before .before .before .pre .0) (c .before .before .before .before .before .before .before .pre .1) (c .before .before .before .before .before .before .before .pre .2) (c .before .before .before .before .first-use .ensures) (c .before .before .before .end-use .ensures) (c .before .before .loop .k) (c .before .before .loop .inv .0) (c .before .loop-test .taken)), c .before .before .before .before .before .before .before .pre .1 .standing .room)
+charge-requires c κs = (omega (arith, rule-used _ _ _ _ (c .before .before .before .before .before .pre .0) (c .before .before .before .before .before .pre .1) (c .before .before .before .before .before .pre .2) (c .before .before .before .before .before .pre .4 .0) (c .before .before .before .before .before .pre .4 .1) (c .before .before .loop .k) (c .before .before .loop .inv .0) (c .before .loop-test .taken)), (c .before .before .before .before .before .pre .1 .standing .room))
 
 add-sum : tie.Need-add-sum Inv-loop μ-loop
 add-sum c = search needs
@@ -43,10 +37,10 @@ loop-less : tie.Need-loop-less Inv-loop μ-loop
 loop-less c = search needs
 
 loop-again : tie.Need-loop-again Inv-loop μ-loop
-loop-again c = (omega arith, omega arith, c .before .before .before .loop .inv .2, cost-next (λ i. chargeBy (view (c .before .before .before .before .before .before .before .before .args .mem .now)) (c .before .before .before .before .before .before .before .before .args .x % 4) (useAt (c .before .before .before .before .before .before .before .before .args .mem .now) i)) _ _ (c .before .before .before .loop .inv .0) (c .before .before .before .loop .inv .3) (c .charge .ensures .0 ∙ ap (chargeBy (view (c .before .before .before .before .before .before .before .before .args .mem .now)) _) (c .before .load-use .ensures)), omega arith)
+loop-again c = (omega arith, omega arith, (c .before .before .before .loop .inv .2), cost-next (λ i. chargeBy (view (c .before .before .before .before .before .before .args .mem .now)) ((c .before .before .before .before .before .before .args .x) % 4) (useAt (c .before .before .before .before .before .before .args .mem .now) i)) _ _ (c .before .before .before .loop .inv .0) (c .before .before .before .loop .inv .3) ((c .charge .ensures .0) ∙ ap (chargeBy (view (c .before .before .before .before .before .before .args .mem .now)) _) (c .before .load-use .ensures)), omega arith)
 
 returns : tie.Need-returns Inv-loop μ-loop
-returns c = cost-all _ _ _ _ (c .before .before .before .before .before .before .pre .0) (c .before .before .before .before .before .before .pre .1) (c .before .before .before .before .before .before .pre .2) (c .before .before .before .first-use .ensures) (c .before .before .end-use .ensures) (c .before .before .before .before .before .before .pre .3) (c .before .loop .inv .1) (c .loop-test .left) (c .before .loop .inv .3)
+returns c = cost-all _ _ _ _ (c .before .before .before .before .pre .0) (c .before .before .before .before .pre .1) (c .before .before .before .before .pre .2) (c .before .before .before .before .pre .4 .0) (c .before .before .before .before .pre .4 .1) (c .before .before .before .before .pre .3) (c .before .loop .inv .1) (c .loop-test .left) (c .before .loop .inv .3)
 
 pub cost-spec : {M : Type 1} → statement M
 cost-spec =
@@ -54,8 +48,6 @@ cost-spec =
     (tie.spec
     Inv-loop
     μ-loop
-    first-use-requires
-    end-use-requires
     loop-holds
     load-use-requires
     cast-charge

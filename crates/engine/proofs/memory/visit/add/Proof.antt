@@ -6,7 +6,7 @@ use Rattle.engine.proofs.memory.visit.add.Statement.{statement}
 use Rattle.engine.proofs.memory.visit.add.Tie as tie
 
 visit-uses-requires : tie.Need-visit-uses-requires
-visit-uses-requires c κs = uses-asks _ _ _ _ _ _ refl refl (c .before .before .before .pre)
+visit-uses-requires c κs = let a = uses-asks _ _ _ _ _ _ refl refl (c .before .before .before .pre .0) in (a .0, (a .1 .0, a .1 .1, (c .before .before .before .pre .1)))
 
 wide-requires : tie.Need-wide-requires
 wide-requires c κs = search needs
@@ -15,13 +15,13 @@ wide-requires-2 : tie.Need-wide-requires-2
 wide-requires-2 c κs = search needs
 
 store-requires : tie.Need-store-requires
-store-requires c κs = mark-asks _ _ _ _ _ _ refl refl (c .before .before .before .before .before .before .before .before .before .pre) _ _ _ (c .before .wide .ensures) (c .wide2 .ensures) (c .before .before .before .before .before .visit-uses .ensures)
+store-requires c κs = mark-asks _ _ _ _ _ _ refl refl (c .before .before .before .before .before .before .before .before .before .pre .0) _ _ _ (c .before .wide .ensures) (c .wide2 .ensures) (c .before .before .before .before .before .visit-uses .ensures)
 
 same-length : tie.Need-same-length
 same-length c = search needs
 
 returns : tie.Need-returns
-returns c = added-of _ _ _ _ _ _ refl refl (c .before .before .before .before .before .before .before .before .before .before .before .before .pre) _ _ _ _ (c .before .before .before .before .wide .ensures) (c .before .before .before .wide2 .ensures) (c .before .before .before .before .before .before .before .before .visit-uses .ensures) (c .before .before .store .ensures)
+returns c = added-of _ _ _ _ _ _ refl refl (c .before .before .before .before .before .before .before .before .before .before .before .before .pre .0) _ _ _ _ (c .before .before .before .before .wide .ensures) (c .before .before .before .wide2 .ensures) (c .before .before .before .before .before .before .before .before .visit-uses .ensures) (c .before .before .store .ensures)
 
 pub add-spec : {M : Type 1} → statement M
 add-spec =

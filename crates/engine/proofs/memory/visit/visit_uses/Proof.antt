@@ -1,7 +1,7 @@
 -- `engine::memory::visit::visit_uses` meets its contract. The loop's invariant is `Spreading` of proofs/Adding.antt: the uses before the k-th are visited. Assumes nothing.
-use Rattle.engine.proofs.Accepted.{asks-wide, visit-wide}
 use Prim.Native.Nat.{_-_}
 use Rattle.table.specs.Format.{theoryIn}
+use Rattle.engine.proofs.Accepted.{asks-wide, visit-wide}
 use Rattle.engine.proofs.Adding.{Spreading, uses-start-of, uses-end-of, use-small, visit-asks, uses-next-of}
 use borrow.Author.Needs.{needs}
 use Rattle.engine.proofs.memory.visit.visit_uses.Statement.{statement}
@@ -13,17 +13,11 @@ Inv-loop table s mem₀ p t end k₀ mem k = Spreading (theoryIn table s) p t me
 abbrev μ-loop : tie.MeasureT-loop
 μ-loop table s mem₀ p t end k₀ mem k = end - k
 
-end-use-requires : tie.Need-end-use-requires Inv-loop μ-loop
-end-use-requires c κs = search needs
-
-first-use-requires : tie.Need-first-use-requires Inv-loop μ-loop
-first-use-requires c κs = search needs
-
 loop-holds : tie.Need-loop-holds Inv-loop μ-loop
-loop-holds c = uses-start-of _ _ _ _ _ (c .before .before .before .before .before .before .pre .0) _ (c .first-use .ensures)
+loop-holds c = uses-start-of _ _ _ _ _ (c .before .before .pre .0) _ (c .before .before .pre .1 .2 .0)
 
 load-use-requires : tie.Need-load-use-requires Inv-loop μ-loop
-load-use-requires c κs = use-small _ _ _ _ _ (c .before .before .before .before .before .before .before .before .before .pre .0) _ _ (c .before .before .loop .inv) _ (c .before .before .before .before .before .end-use .ensures) (c .before .loop-test .taken)
+load-use-requires c κs = use-small _ _ _ _ _ (c .before .before .before .before .before .pre .0) _ _ (c .before .before .loop .inv) _ (c .before .before .before .before .before .pre .1 .2 .1) (c .before .loop-test .taken)
 
 wide-requires : tie.Need-wide-requires Inv-loop μ-loop
 wide-requires c κs = search needs
@@ -32,7 +26,7 @@ wide-requires-2 : tie.Need-wide-requires-2 Inv-loop μ-loop
 wide-requires-2 c κs = search needs
 
 visit-requires : tie.Need-visit-requires Inv-loop μ-loop
-visit-requires c κs = asks-wide _ _ _ (c .before .wide .ensures) (c .wide2 .ensures) (visit-asks _ _ _ _ _ (c .before .before .before .before .before .before .before .before .before .before .before .before .before .pre .0) _ _ (c .before .before .before .before .before .before .loop .inv) _ (c .before .before .before .before .before .before .before .before .before .end-use .ensures) (c .before .before .before .before .before .loop-test .taken) _ (c .before .before .before .load-use .ensures))
+visit-requires c κs = asks-wide _ _ _ (c .before .wide .ensures) (c .wide2 .ensures) (visit-asks _ _ _ _ _ (c .before .before .before .before .before .before .before .before .before .pre .0) _ _ (c .before .before .before .before .before .before .loop .inv) _ (c .before .before .before .before .before .before .before .before .before .pre .1 .2 .1) (c .before .before .before .before .before .loop-test .taken) _ (c .before .before .before .load-use .ensures))
 
 add-k : tie.Need-add-k Inv-loop μ-loop
 add-k c = search needs
@@ -41,13 +35,13 @@ loop-less : tie.Need-loop-less Inv-loop μ-loop
 loop-less c = search needs
 
 loop-again : tie.Need-loop-again Inv-loop μ-loop
-loop-again c = uses-next-of _ _ _ _ _ (c .before .before .before .before .before .before .before .before .before .before .before .before .before .before .before .before .pre .0) _ _ (c .before .before .before .before .before .before .before .before .before .loop .inv) _ (c .before .before .before .before .before .before .before .before .before .before .before .before .end-use .ensures) (c .before .before .before .before .before .before .before .before .loop-test .taken) _ (c .before .before .before .before .before .before .load-use .ensures) _ (visit-wide _ _ _ (c .before .before .before .before .wide .ensures) (c .before .before .before .wide2 .ensures) _ (c .before .before .visit .ensures))
+loop-again c = uses-next-of _ _ _ _ _ (c .before .before .before .before .before .before .before .before .before .before .before .before .pre .0) _ _ (c .before .before .before .before .before .before .before .before .before .loop .inv) _ (c .before .before .before .before .before .before .before .before .before .before .before .before .pre .1 .2 .1) (c .before .before .before .before .before .before .before .before .loop-test .taken) _ (c .before .before .before .before .before .before .load-use .ensures) _ (visit-wide _ _ _ (c .before .before .before .before .wide .ensures) (c .before .before .before .wide2 .ensures) _ (c .before .before .visit .ensures))
 
 same-length : tie.Need-same-length Inv-loop μ-loop
 same-length c = search needs
 
 returns : tie.Need-returns Inv-loop μ-loop
-returns c = uses-end-of _ _ _ _ _ (c .before .before .before .before .before .before .before .before .pre .0) _ _ (c .before .loop .inv) _ (c .before .before .before .before .end-use .ensures) (c .loop-test .left)
+returns c = uses-end-of _ _ _ _ _ (c .before .before .before .before .pre .0) _ _ (c .before .loop .inv) _ (c .before .before .before .before .pre .1 .2 .1) (c .loop-test .left)
 
 pub visit-uses-spec : {M : Type 1} → statement M
 visit-uses-spec =
@@ -55,8 +49,6 @@ visit-uses-spec =
     (tie.spec
     Inv-loop
     μ-loop
-    end-use-requires
-    first-use-requires
     loop-holds
     load-use-requires
     wide-requires
