@@ -409,7 +409,7 @@ pub fn run(bytes: &[u8], budget: u32, log_len: usize, scratch_len: usize) -> (An
 }
 
 /// "The sheet": "reads standard input (at most 32,779 bytes, a longer input judged on those), runs with budget 5A+F+N+3B+3P, and
-/// prints." Every line ends in a line feed (open point 4.1).
+/// prints." Every line ends in a line feed (docs/DECISIONS.md, The sheet).
 pub fn sheet(bytes: &[u8]) -> String {
     let bytes = &bytes[..bytes.len().min(32_779)];
     // "A refused table prints `refused` and its number, one line, as `refused 7`."
