@@ -2,6 +2,7 @@
 -- `holds q t`: tag t of literal q is held.
 use Prim.Native.Nat.{ℕ, zero, suc}
 use mathlib.Core.Bool.{Bool}
+use mathlib.Core.List.{List}
 use Rattle.logic.specs.Tests.{_and_, _or_, isnt, _implies_, every, some, everyOf, someOf}
 use Rattle.logic.specs.Theory.{Theory, complement, bodyOf, isFact, strictFor, supporter, attacker, superior}
 

@@ -1,7 +1,7 @@
 -- A reading of theories, and the closure system that it makes of one: lines, candidates, visited rules and the price of
 -- document 01, over the reading's number of tags and its inference rules.
 use Prim.Native.Nat.{ℕ, _+_, _*_, _/_, _%_}
-use mathlib.Core.Bool.{Bool}
+use mathlib.Core.Bool.{Bool, cond}
 use mathlib.Core.List.{List, [], _∷_, _++_, map}
 use lib.Dec.{eqb}
 use lib.ListN
