@@ -1,5 +1,5 @@
 -- Document 01, The rule of working, and its price: "A single running tally of worked and spent is lent to each working and changed
--- there." What a working asks, and what it changes.
+-- there." What processing the next line asks, and what it changes.
 use Prim.Native.Nat.{ℕ, _+_, _-_, _*_, _≤_, _<_}
 use mathlib.Core.Path.{_≡_}
 use mathlib.Core.Bool.{Bool, true, false, cond}
@@ -17,17 +17,17 @@ use Rattle.engine.specs.Working.{Logged, Processed}
 abbrev pub next : List ℕ → Tally → ℕ
 next log t = getD log (t .worked) 0
 
--- its price, by what is processed without it and with it
+-- its cost, by what is processed without it and with it
 abbrev pub due : Theory → List ℕ → ℕ → ℕ
 due d mem x = plainSystem d .cost (heldOf mem) (adds (heldOf mem) x) x
 
 -- "a line is worked if its price fits what is left"
 abbrev pub fits : ℕ → Tally → ℕ → Bool
-fits budget t price = leb price (budget - t .spent)
+fits budget t cost = leb cost (budget - t .spent)
 
--- "how many of them were worked, and .. Size plus the price of each line worked": the tally after a line of that price
+-- "how many of them were worked, and .. Size plus the price of each line worked": the tally after a line of that cost
 unfoldable pub tallyAfter : ℕ → ℕ → Tally → Tally
-tallyAfter budget price t = cond (fits budget t price) (record { worked = t .worked + 1; spent = t .spent + price }) t
+tallyAfter budget cost t = cond (fits budget t cost) (record { worked = t .worked + 1; spent = t .spent + cost }) t
 
 -- There is a next line, written and not processed, and no more was spent than the budget.
 pub record Next (d : Theory) (budget : ℕ) (mem log : List ℕ) (n : ℕ) (t : Tally) : Type 0 where
@@ -38,7 +38,7 @@ pub record Next (d : Theory) (budget : ℕ) (mem log : List ℕ) (n : ℕ) (t : 
   pub new : heldOf mem (next log t) ≡ false
   pub within : t .spent ≤ budget
 
--- The next line was processed, if its price fits; if not, nothing has changed.
+-- The next line was processed, if its cost fits; if not, nothing has changed.
 pub record Stepped (d : Theory) (budget : ℕ) (mem log : List ℕ) (n : ℕ) (t : Tally) (mem′ log′ : List ℕ) (n′ : ℕ) (t′ : Tally) : Type 0 where
   pub tally : t′ ≡ tallyAfter budget (due d mem (next log t)) t
   pub processed : T (fits budget t (due d mem (next log t))) → Processed d (next log t) mem log n mem′ log′ n′
