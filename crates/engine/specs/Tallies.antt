@@ -9,8 +9,9 @@ use lib.ListN.{getD}
 use Rattle.logic.specs.Theory.{Theory}
 use Rattle.logic.specs.Plain.{plainSystem}
 use Rattle.engine.specs.declared.tally.Tally.{Tally}
-use Rattle.engine.specs.Memory.{heldOf, writtenOf}
-use Rattle.engine.specs.Api.{adds}
+use Rattle.memory.specs.Layout.{tagCount}
+use Rattle.memory.specs.Memory.{heldOf, writtenOf}
+use Rattle.memory.specs.Api.{adds}
 use Rattle.engine.specs.Working.{Logged, Processed}
 
 -- "Lines are worked in log order": the next one
@@ -33,7 +34,7 @@ tallyAfter budget cost t = cond (fits budget t cost) (record { worked = t .worke
 pub record Next (d : Theory) (budget : ℕ) (mem log : List ℕ) (n : ℕ) (t : Tally) : Type 0 where
   pub logged : Logged d mem log n
   pub more : t .worked < n
-  pub small : next log t < 8 * d .atoms
+  pub small : next log t < tagCount * (2 * d .atoms)
   pub written : writtenOf mem (next log t) ≡ true
   pub new : heldOf mem (next log t) ≡ false
   pub within : t .spent ≤ budget

@@ -13,8 +13,9 @@ use Rattle.logic.specs.Reading.{heads}
 use Rattle.logic.specs.Plain.{plainSystem}
 use Rattle.engine.specs.declared.answer.Answer.{Answer}
 use Rattle.engine.specs.declared.answer.Answer.the-variants.{Stopped, Finished}
-use Rattle.engine.specs.Memory.{Ready, heldOf, writtenOf}
-use Rattle.engine.specs.Api.{Kept, adds}
+use Rattle.memory.specs.Layout.{tagCount}
+use Rattle.memory.specs.Memory.{heldOf, writtenOf, Ready}
+use Rattle.memory.specs.Api.{adds, Kept}
 use Rattle.engine.specs.Answers.{countsIn}
 
 -- The log has n lines: a derivation without repeats, and just what is written by the memory. It has room for every line.
@@ -24,7 +25,7 @@ pub record Logged (d : Theory) (mem log : List ℕ) (n : ℕ) : Type 0 where
   pub derives : T (derivation (plainSystem d) (take n log))
   pub once : T (distinct (take n log))
   pub inside : n ≤ length log
-  pub room : 4 * d .atoms ≤ length log
+  pub room : tagCount * d .atoms ≤ length log
 
 -- Conclusions were tried, in their order: the lines have grown by those that follow, and nothing else has changed.
 pub record Tried (d : Theory) (cs mem log : List ℕ) (n : ℕ) (mem′ log′ : List ℕ) (n′ : ℕ) : Type 0 where
@@ -70,11 +71,11 @@ pub record Opened (d : Theory) (mem log mem′ log′ : List ℕ) (n : ℕ) : Ty
   pub kept : Kept mem mem′
 
 -- an outcome as an answer
-abbrev pub told : Outcome → Answer
-told o = cond (o .finished) (Finished (countsIn o)) (Stopped (countsIn o))
+abbrev pub answerOf : Outcome → Answer
+answerOf o = cond (o .finished) (Finished (countsIn o)) (Stopped (countsIn o))
 
 -- The run is at its end.
 pub record Worked (o : Outcome) (mem log mem′ log′ : List ℕ) (a : Answer) : Type 0 where
-  pub answer : a ≡ told o
+  pub answer : a ≡ answerOf o
   pub written : log′ ≡ logOf o ++ drop (lines o) log
   pub kept : Kept mem mem′

@@ -12,14 +12,16 @@ ghost use Rattle.engine.specs.Answers.{Ran};
 ghost use Rattle.engine.specs.Working.{Worked};
 use crate::answer::Answer;
 use crate::answer::Counts;
-use crate::memory::index::clear;
-use crate::memory::index::prepare;
+use memory::layout::MEMORY_SIZE;
+use memory::prepare::clear;
+use memory::prepare::prepare;
 use crate::work::work;
 use crate::work::write_initial;
 use table::format::Sizes;
 use table::judge::Judgement;
 use table::judge::Refusal;
 use table::judge::judge;
+ghost use Rattle.memory.specs.Layout.{tagCount, memorySize};
 
 // A + F + N + B + P.
 fn size_of(s: Sizes) -> u32
@@ -37,7 +39,7 @@ fn run_started(
     scratch: &mut [u16],
     start: u32,
 ) -> Answer
-    requires { ⌜ (judgementOf (now table) ≡ Accepted s) × (32768 ≤ length (now scratch)) × (4 * s .atoms ≤ length (now log)) × (start ≡ size (theoryIn (now table) s)) × (start ≤ budget) ⌝ }
+    requires { ⌜ (judgementOf (now table) ≡ Accepted s) × (memorySize ≤ length (now scratch)) × (tagCount * s .atoms ≤ length (now log)) × (start ≡ size (theoryIn (now table) s)) × (start ≤ budget) ⌝ }
     ensures { λ r. ⌜ Worked (run (plainSystem (theoryIn (now (table .entry)) s)) budget) (now (scratch .entry)) (now (log .entry)) (now (scratch .exit)) (now (log .exit)) r ⌝ }
 {
     prepare(table, s, scratch);
@@ -50,7 +52,7 @@ fn run_accepted(table: &[u8], s: Sizes, budget: u32, log: &mut [u16], scratch: &
     requires { ⌜ judgementOf (now table) ≡ Accepted s ⌝ }
     ensures { λ r. ⌜ Ran (now (table .entry)) budget (now (log .entry)) (now (log .exit)) (now (scratch .entry)) (now (scratch .exit)) r ⌝ }
 {
-    if scratch.len() < 32768 {
+    if scratch.len() < MEMORY_SIZE {
         return Answer::Refused(Refusal::ShortScratch);
     }
     if log.len() < 4 * (s.atoms as usize) {

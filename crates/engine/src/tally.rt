@@ -6,14 +6,16 @@ ghost use Prim.Native.Nat.{_*_, _/_, _<_};
 ghost use Rattle.table.specs.declared.judge.Judgement.the-variants.{Accepted};
 ghost use Rattle.table.specs.Format.{theoryIn};
 ghost use Rattle.table.specs.Refusals.{judgementOf};
-ghost use Rattle.engine.specs.Memory.{view, heldOf, writtenOf};
-ghost use Rattle.engine.specs.Api.{UsesAt};
+ghost use Rattle.memory.specs.Layout.{tagCount};
+ghost use Rattle.memory.specs.Memory.{heldOf, writtenOf};
+ghost use Rattle.memory.specs.Api.{UsesAt};
 ghost use Rattle.engine.specs.Working.{Logged, Processed};
 ghost use Rattle.engine.specs.Tallies.{Next, Stepped};
-use crate::memory::tests::cost;
-use crate::memory::uses::Uses;
-use crate::memory::uses::uses_of;
-use crate::memory::visit::add;
+use memory::inference::cost;
+use memory::layout::TAGS;
+use memory::uses::Uses;
+use memory::uses::uses_of;
+use memory::visit::add;
 use crate::tries::try_both;
 use crate::tries::try_uses;
 use table::format::Sizes;
@@ -40,13 +42,13 @@ fn try_after(
     x: u16,
     uses: Uses,
 ) -> u32
-    requires { ⌜ (judgementOf (now table) ≡ Accepted s) × Logged (theoryIn (now table) s) (now mem) (now log) lines × (x < 8 * s .atoms) × (writtenOf (now mem) x ≡ true) × (heldOf (now mem) x ≡ false) ⌝ }
-    requires { ⌜ UsesAt (view (now mem)) (x / 4) (uses .first) (uses .end) ⌝ }
+    requires { ⌜ (judgementOf (now table) ≡ Accepted s) × Logged (theoryIn (now table) s) (now mem) (now log) lines × (x < tagCount * (2 * s .atoms)) × (writtenOf (now mem) x ≡ true) × (heldOf (now mem) x ≡ false) ⌝ }
+    requires { ⌜ UsesAt (theoryIn (now table) s) (x / tagCount) (uses .first) (uses .end) ⌝ }
     ensures { λ r. ⌜ Processed (theoryIn (now (table .entry)) s) x (now (mem .entry)) (now (log .entry)) lines (now (mem .exit)) (now (log .exit)) r ⌝ }
 {
     add(table, s, mem, x, uses);
-    let n = try_both(table, s, mem, log, lines, x / 4);
-    try_uses(table, s, mem, log, n, x / 4, x % 4 < 2, uses)
+    let n = try_both(table, s, mem, log, lines, x / TAGS);
+    try_uses(table, s, mem, log, n, x / TAGS, x % TAGS < 2, uses)
 }
 
 // The next line is processed, if its cost fits what is left of the budget.
@@ -64,7 +66,7 @@ fn process(
     ensures { λ r. ⌜ Stepped (theoryIn (now (table .entry)) s) budget (now (mem .entry)) (now (log .entry)) lines (record { worked = worked; spent = spent }) (now (mem .exit)) (now (log .exit)) (r .lines) (r .tally) ⌝ }
 {
     let x = log[worked as usize];
-    let uses = uses_of(mem, x / 4);
+    let uses = uses_of(table, s, mem, x / TAGS);
     let due = cost(table, s, mem, x, uses);
     if budget - spent < due {
         return Progress {

@@ -10,16 +10,18 @@ ghost use Rattle.logic.specs.Reading.{heads, visited, withTags};
 ghost use Rattle.table.specs.declared.judge.Judgement.the-variants.{Accepted};
 ghost use Rattle.table.specs.Format.{theoryIn};
 ghost use Rattle.table.specs.Refusals.{judgementOf};
-ghost use Rattle.engine.specs.Memory.{view, writtenOf};
-ghost use Rattle.engine.specs.Api.{UsesAt};
+ghost use Rattle.memory.specs.Layout.{tagCount};
+ghost use Rattle.memory.specs.Memory.{writtenOf};
+ghost use Rattle.memory.specs.Api.{UsesAt};
 ghost use Rattle.engine.specs.Working.{Logged, Tried, headsIf, familyIf};
-use crate::memory::marks::is_settled;
-use crate::memory::marks::write;
-use crate::memory::tests::follows;
-use crate::memory::uses::Uses;
-use crate::memory::uses::head_of;
-use crate::memory::uses::is_strict;
-use crate::memory::words::load_use;
+use memory::inference::follows;
+use memory::layout::TAGS;
+use memory::marks::either_written;
+use memory::marks::write;
+use memory::uses::Uses;
+use memory::uses::head_of;
+use memory::uses::is_strict;
+use memory::uses::user_at;
 use table::format::Literal;
 use table::format::Sizes;
 
@@ -33,10 +35,10 @@ fn try_open(
     q: u16,
     t: u16,
 ) -> u32
-    requires { ⌜ (judgementOf (now table) ≡ Accepted s) × (q < 2 * s .atoms) × (t < 4) × Logged (theoryIn (now table) s) (now mem) (now log) lines × (writtenOf (now mem) (4 * q + t) ≡ false) ⌝ }
-    ensures { λ r. ⌜ Tried (theoryIn (now (table .entry)) s) ((4 * q + t) ∷ []) (now (mem .entry)) (now (log .entry)) lines (now (mem .exit)) (now (log .exit)) r ⌝ }
+    requires { ⌜ (judgementOf (now table) ≡ Accepted s) × (q < 2 * s .atoms) × (t < tagCount) × Logged (theoryIn (now table) s) (now mem) (now log) lines × (writtenOf (now mem) (tagCount * q + t) ≡ false) ⌝ }
+    ensures { λ r. ⌜ Tried (theoryIn (now (table .entry)) s) ((tagCount * q + t) ∷ []) (now (mem .entry)) (now (log .entry)) lines (now (mem .exit)) (now (log .exit)) r ⌝ }
 {
-    let x = 4 * q + t;
+    let x = TAGS * q + t;
     if !follows(table, s, mem, x) {
         return lines;
     }
@@ -56,9 +58,9 @@ fn try_opposites(
     t: u16,
 ) -> u32
     requires { ⌜ (judgementOf (now table) ≡ Accepted s) × (q < 2 * s .atoms) × (t < 3) × (t % 2 ≡ 0) × Logged (theoryIn (now table) s) (now mem) (now log) lines ⌝ }
-    ensures { λ r. ⌜ Tried (theoryIn (now (table .entry)) s) ((4 * q + t) ∷ (4 * q + (t + 1)) ∷ []) (now (mem .entry)) (now (log .entry)) lines (now (mem .exit)) (now (log .exit)) r ⌝ }
+    ensures { λ r. ⌜ Tried (theoryIn (now (table .entry)) s) ((tagCount * q + t) ∷ (tagCount * q + (t + 1)) ∷ []) (now (mem .entry)) (now (log .entry)) lines (now (mem .exit)) (now (log .exit)) r ⌝ }
 {
-    if is_settled(mem, q, t) {
+    if either_written(mem, q, t) {
         return lines;
     }
     let n = try_open(table, s, mem, log, lines, q, t);
@@ -78,7 +80,7 @@ pub fn try_literal(
     q: u16,
 ) -> u32
     requires { ⌜ (judgementOf (now table) ≡ Accepted s) × (q < 2 * s .atoms) × Logged (theoryIn (now table) s) (now mem) (now log) lines ⌝ }
-    ensures { λ r. ⌜ Tried (theoryIn (now (table .entry)) s) (withTags 4 (q ∷ [])) (now (mem .entry)) (now (log .entry)) lines (now (mem .exit)) (now (log .exit)) r ⌝ }
+    ensures { λ r. ⌜ Tried (theoryIn (now (table .entry)) s) (withTags tagCount (q ∷ [])) (now (mem .entry)) (now (log .entry)) lines (now (mem .exit)) (now (log .exit)) r ⌝ }
 {
     let n = try_opposites(table, s, mem, log, lines, q, 0);
     try_opposites(table, s, mem, log, n, q, 2)
@@ -87,7 +89,7 @@ pub fn try_literal(
 // A literal and its complement.
 pub fn try_both(table: &[u8], s: Sizes, mem: &mut [u16], log: &mut [u16], lines: u32, q: u16) -> u32
     requires { ⌜ (judgementOf (now table) ≡ Accepted s) × (q < 2 * s .atoms) × Logged (theoryIn (now table) s) (now mem) (now log) lines ⌝ }
-    ensures { λ r. ⌜ Tried (theoryIn (now (table .entry)) s) (withTags 4 (q ∷ complement q ∷ [])) (now (mem .entry)) (now (log .entry)) lines (now (mem .exit)) (now (log .exit)) r ⌝ }
+    ensures { λ r. ⌜ Tried (theoryIn (now (table .entry)) s) (withTags tagCount (q ∷ complement q ∷ [])) (now (mem .entry)) (now (log .entry)) lines (now (mem .exit)) (now (log .exit)) r ⌝ }
 {
     let other = Literal(q).complement();
     let n = try_literal(table, s, mem, log, lines, q);
@@ -112,7 +114,7 @@ fn try_rule(
     definite: bool,
 ) -> u32
     requires { ⌜ (judgementOf (now table) ≡ Accepted s) × (r < s .rules) × Logged (theoryIn (now table) s) (now mem) (now log) lines ⌝ }
-    ensures { λ n. ⌜ Tried (theoryIn (now (table .entry)) s) (withTags 4 (headsIf (theoryIn (now (table .entry)) s) definite (r ∷ []))) (now (mem .entry)) (now (log .entry)) lines (now (mem .exit)) (now (log .exit)) n ⌝ }
+    ensures { λ n. ⌜ Tried (theoryIn (now (table .entry)) s) (withTags tagCount (headsIf (theoryIn (now (table .entry)) s) definite (r ∷ []))) (now (mem .entry)) (now (log .entry)) lines (now (mem .exit)) (now (log .exit)) n ⌝ }
 {
     if !visits(definite, is_strict(table, s, mem, r)) {
         return lines;
@@ -132,14 +134,14 @@ pub fn try_uses(
     definite: bool,
     uses: Uses,
 ) -> u32
-    requires { ⌜ (judgementOf (now table) ≡ Accepted s) × (p < 2 * s .atoms) × Logged (theoryIn (now table) s) (now mem) (now log) lines × UsesAt (view (now mem)) p (uses .first) (uses .end) ⌝ }
-    ensures { λ r. ⌜ Tried (theoryIn (now (table .entry)) s) (withTags 4 (heads (theoryIn (now (table .entry)) s) (visited (theoryIn (now (table .entry)) s) (familyIf definite) p))) (now (mem .entry)) (now (log .entry)) lines (now (mem .exit)) (now (log .exit)) r ⌝ }
+    requires { ⌜ (judgementOf (now table) ≡ Accepted s) × (p < 2 * s .atoms) × Logged (theoryIn (now table) s) (now mem) (now log) lines × UsesAt (theoryIn (now table) s) p (uses .first) (uses .end) ⌝ }
+    ensures { λ r. ⌜ Tried (theoryIn (now (table .entry)) s) (withTags tagCount (heads (theoryIn (now (table .entry)) s) (visited (theoryIn (now (table .entry)) s) (familyIf definite) p))) (now (mem .entry)) (now (log .entry)) lines (now (mem .exit)) (now (log .exit)) r ⌝ }
 {
     let mut n = lines;
     let end = uses.end;
     let mut k = uses.first;
     while k < end {
-        let r = load_use(mem, k);
+        let r = user_at(table, s, mem, p, uses, k);
         n = try_rule(table, s, mem, log, n, r, definite);
         k += 1;
     }

@@ -10,7 +10,8 @@ ghost use Rattle.logic.specs.Plain.{plainSystem};
 ghost use Rattle.table.specs.declared.judge.Judgement.the-variants.{Accepted};
 ghost use Rattle.table.specs.Format.{theoryIn};
 ghost use Rattle.table.specs.Refusals.{judgementOf};
-ghost use Rattle.engine.specs.Memory.{heldOf};
+ghost use Rattle.memory.specs.Layout.{tagCount};
+ghost use Rattle.memory.specs.Memory.{heldOf};
 ghost use Rattle.engine.specs.Working.{Blank, Logged, Opened, Worked};
 use crate::answer::Answer;
 use crate::answer::Counts;
@@ -22,7 +23,7 @@ use table::format::Sizes;
 
 // What follows from nothing is written.
 pub fn write_initial(table: &[u8], s: Sizes, mem: &mut [u16], log: &mut [u16]) -> u32
-    requires { ⌜ (judgementOf (now table) ≡ Accepted s) × (4 * s .atoms ≤ length (now log)) × Blank (theoryIn (now table) s) (now mem) ⌝ }
+    requires { ⌜ (judgementOf (now table) ≡ Accepted s) × (tagCount * s .atoms ≤ length (now log)) × Blank (theoryIn (now table) s) (now mem) ⌝ }
     ensures { λ r. ⌜ Opened (theoryIn (now (table .entry)) s) (now (mem .entry)) (now (log .entry)) (now (mem .exit)) (now (log .exit)) r ⌝ }
 {
     let end = 2 * s.atoms;

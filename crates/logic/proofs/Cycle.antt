@@ -11,17 +11,10 @@ use lib.ListN.{length}
 use Rattle.logic.specs.Tests.{everyOf, member, distinct, upto, pick}
 use Rattle.logic.specs.Cycle.{Leads, one, more, Cycle, leadsInto, prune, cyclic}
 use Rattle.logic.proofs.Tests.{test-cases, cond-cases, and-intro, isnt-intro, someOf-intro, someOf-elim, everyOf-elim}
-use Rattle.logic.proofs.Lists.{filled-elim, filled-intro, member-cons-elim, member-nil, member-pick, member-pick-intro, member-upto, member-upto-intro, distinct-upto}
+use Rattle.logic.proofs.Lists.{filled-elim, filled-intro, member-cons-elim, member-nil, pick-le, member-pick, member-pick-intro, member-upto, member-upto-intro, distinct-upto}
 use Rattle.logic.proofs.Pigeon.{pigeon}
 
--- `pick` takes nothing in, and takes something out unless all pass
-pick-le : (l : List ℕ) (p : ℕ → Bool) → length (pick l p) ≤ length l
-unfolding pick
-pick-le [] p = omega arith
-pick-le (x ∷ l) p =
-    let rest : length (pick l p) ≤ length l = pick-le l p in
-    cond-cases (λ k. length k ≤ suc (length l)) (p x) (x ∷ pick l p) (pick l p) (λ _. omega arith) (λ _. omega arith)
-
+-- `pick` takes something out unless all pass
 pick-lt : (l : List ℕ) (p : ℕ → Bool) → (T (everyOf l p) → ⊥) → length (pick l p) < length l
 unfolding pick everyOf
 pick-lt [] p some-out = absurd (some-out tt)

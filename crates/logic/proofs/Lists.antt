@@ -1,14 +1,16 @@
 -- Laws of membership, distinct lists, `pick` and `upto`. Assumes nothing.
 use Prim.Native.Nat.{ℕ, zero, suc, _+_, _≤_, _<_}
-use native.Mathlib.Nat.{le-refl, le-step, lt-irrefl}
+use native.Mathlib.Nat.{le-refl, le-step, lt-irrefl, not-suc-le-zero}
 use native.Mathlib.Omega.{arith}
-use mathlib.Core.Path.{_≡_, refl, sym, ap, subst}
+use mathlib.Core.Path.{_≡_, refl, sym, _∙_, ap, ap₂, subst}
 use mathlib.Core.Logic.{_⊎_, inl, inr, ⊎-elim}
 use mathlib.Core.Bool.{Bool, true, false, cond}
-use mathlib.Core.List.{List, [], _∷_, _++_, map, append-assoc}
+use mathlib.Core.List.{List, [], _∷_, _++_, map, map-append, append-assoc}
 use lib.Dec.{T, eqb, eqb→eq, eqb-refl}
+use lib.ListN.{length, getD, take, drop, length-append, length-map, take-append-drop, List·getD-append}
+use lib.Seq.{getD-at, drop-cons}
 use Rattle.logic.specs.Tests.{_and_, _or_, isnt, someOf, member, empty, distinct, upto, pick}
-use Rattle.logic.proofs.Tests.{cond-cases, and-intro, and-left, and-right, or-left, or-right, or-elim, isnt-intro, isnt-elim, lt-suc-cases}
+use Rattle.logic.proofs.Tests.{cond-true, cond-false, cond-cases, and-intro, and-left, and-right, or-left, or-right, or-elim, isnt-intro, isnt-elim, lt-suc-cases}
 
 pub member-cons-elim : (x y : ℕ) (l : List ℕ) → T (member x (y ∷ l)) → (x ≡ y) ⊎ T (member x l)
 unfolding someOf
@@ -155,3 +157,81 @@ pub member-map : (f : ℕ → ℕ) (l : List ℕ) (x : ℕ) → T (member x (map
 member-map f [] x m = absurd (member-nil x m)
 member-map f (y ∷ l) x m =
     ⊎-elim (λ e. (y, member-here y l, e)) (λ u. let (z, v, e) = member-map f l x u in (z, member-there z y l v, e)) (member-cons-elim x (f y) (map f l) m)
+
+-- `pick` takes nothing in
+pub pick-le : (l : List ℕ) (p : ℕ → Bool) → length (pick l p) ≤ length l
+unfolding pick
+pick-le [] p = omega arith
+pick-le (x ∷ l) p =
+    let rest : length (pick l p) ≤ length l = pick-le l p in
+    cond-cases (λ k. length k ≤ suc (length l)) (p x) (x ∷ pick l p) (pick l p) (λ _. omega arith) (λ _. omega arith)
+
+-- a list has the same that pass by two tests that agree on it
+pub pick-same : (l : List ℕ) (p q : ℕ → Bool) → ((y : ℕ) → T (member y l) → q y ≡ p y) → pick l q ≡ pick l p
+unfolding pick
+pick-same [] p q e = refl
+pick-same (x ∷ l) p q e =
+    ap₂ (λ b k. cond b (x ∷ k) k) (e x (member-here x l)) (pick-same l p q (λ y m. e y (member-there y x l m)))
+
+both-longer : (z : ℕ) (k l : List ℕ) (b : Bool) → length l ≡ length k + 1 → length (cond b (z ∷ l) l) ≡ length (cond b (z ∷ k) k) + 1
+both-longer z k l true s = omega arith
+both-longer z k l false s = s
+
+-- a distinct list has one more that passes where one of it passes more
+pub pick-more : (l : List ℕ) (p q : ℕ → Bool) (x : ℕ) → T (distinct l) → T (member x l) → (T (p x) → ⊥) → T (q x)
+    → ((y : ℕ) → (y ≡ x → ⊥) → q y ≡ p y) → length (pick l q) ≡ length (pick l p) + 1
+unfolding pick distinct
+pick-more [] p q x t m n u e = absurd (member-nil x m)
+pick-more (z ∷ l) p q x t m n u e =
+    ⊎-elim here (λ v. there v (pick-more l p q x (and-right _ _ t) v n u e)) (member-cons-elim x z l m)
+  where
+    here : x ≡ z → length (cond (q z) (z ∷ pick l q) (pick l q)) ≡ length (cond (p z) (z ∷ pick l p) (pick l p)) + 1
+    here i =
+        let f : length (pick l q) ≡ length (pick l p) =
+        ap length (pick-same l p q (λ y v. e y (λ j. isnt-elim _ (and-left _ _ t) (subst (λ k. T (member k l)) (j ∙ i) v)))) in
+        let a : length (cond (q z) (z ∷ pick l q) (pick l q)) ≡ suc (length (pick l q)) = ap length (cond-true (q z) _ _ (subst (λ k. T (q k)) i u)) in
+        let c : length (cond (p z) (z ∷ pick l p) (pick l p)) ≡ length (pick l p) =
+        ap length (cond-false (p z) _ _ (λ v. n (subst (λ k. T (p k)) (sym i) v))) in
+        omega arith
+
+    there : T (member x l) → length (pick l q) ≡ length (pick l p) + 1
+        → length (cond (q z) (z ∷ pick l q) (pick l q)) ≡ length (cond (p z) (z ∷ pick l p) (pick l p)) + 1
+    there v s =
+        ap (λ b. length (cond b (z ∷ pick l q) (pick l q))) (e z (λ i. isnt-elim _ (and-left _ _ t) (subst (λ k. T (member k l)) (sym i) v)))
+        ∙ both-longer z (pick l p) (pick l q) (p z) s
+
+-- a map that tells the elements of a distinct list apart keeps it distinct
+pub distinct-map : (f : ℕ → ℕ) (l : List ℕ) → T (distinct l) → ((x y : ℕ) → T (member x l) → T (member y l) → f x ≡ f y → x ≡ y) → T (distinct (map f l))
+unfolding distinct
+distinct-map f [] t o = tt
+distinct-map f (x ∷ l) t o =
+    and-intro _ _
+    (isnt-intro _ (λ m. let (y, v, e) = member-map f l (f x) m in
+    isnt-elim _ (and-left _ _ t) (subst (λ z. T (member z l)) (sym (o x y (member-here x l) (member-there y x l v) e)) v)))
+    (distinct-map f l (and-right _ _ t) (λ y z u v. o y z (member-there y x l u) (member-there z x l v)))
+
+pub length-upto : (n : ℕ) → length (upto n) ≡ n
+unfolding upto
+length-upto zero = refl
+length-upto (suc n) = omega (arith, length-append (upto n) (n ∷ []), length-upto n)
+
+-- the i-th of the values at the numbers below n
+pub getD-map-upto : (f : ℕ → ℕ) (n i : ℕ) → i < n → getD (map f (upto n)) i 0 ≡ f i
+unfolding upto
+getD-map-upto f zero i h = absurd (lt-irrefl 0 (omega arith))
+getD-map-upto f (suc n) i h =
+    ap (λ l. getD l i 0) (map-append f (upto n) (n ∷ []))
+    ∙ ⊎-elim (λ k. List·getD-append (map f (upto n)) (f n ∷ []) 0 i (omega (arith, size)) ∙ getD-map-upto f n i k)
+    (λ e. getD-at (map f (upto n)) (f n) [] 0 i (omega (arith, size)) ∙ ap f (sym e)) (lt-suc-cases i n h)
+  where
+    size : length (map f (upto n)) ≡ n
+    size = length-map (upto n) f ∙ length-upto n
+
+pub member-getD : (l : List ℕ) (j : ℕ) → j < length l → T (member (getD l j 0) l)
+member-getD [] j h = absurd (not-suc-le-zero h)
+member-getD (x ∷ l) zero h = member-here x l
+member-getD (x ∷ l) (suc j) h = member-there _ x l (member-getD l j (omega arith))
+
+-- in a distinct list, an element is not among those before it
+pub distinct-before : (l : List ℕ) (j : ℕ) → T (distinct l) → j < length l → T (member (getD l j 0) (take j l)) → ⊥
+distinct-before l j t h = distinct-apart (take j l) (getD l j 0) (drop (suc j) l) (subst (λ k. T (distinct k)) (sym (take-append-drop j l) ∙ ap (take j l ++_) (drop-cons l j 0 h)) t)

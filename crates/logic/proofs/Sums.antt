@@ -6,12 +6,12 @@ use native.Mathlib.Omega.{arith}
 use mathlib.Core.Path.{_≡_, refl, sym, _∙_, ap, ap₂, subst}
 use mathlib.Core.Logic.{_⊎_, ⊎-elim}
 use mathlib.Core.Bool.{Bool, true, false, cond}
-use mathlib.Core.List.{[], _∷_}
+use mathlib.Core.List.{List, [], _∷_}
 use lib.Dec.{T}
 use lib.ListN.{length, length-append}
-use Rattle.logic.specs.Tests.{_and_, _or_, total, weigh, countBelow, upto, pick}
-use Rattle.logic.proofs.Tests.{true-of, false-of, lt-suc-cases}
-use Rattle.logic.proofs.Lists.{pick-append}
+use Rattle.logic.specs.Tests.{_and_, _or_, member, distinct, total, weigh, countBelow, upto, pick}
+use Rattle.logic.proofs.Tests.{test-cases, true-of, false-of, lt-suc-cases}
+use Rattle.logic.proofs.Lists.{pick-append, pick-same, pick-more}
 
 pub total-ext : (n : ℕ) (f g : ℕ → ℕ) → ((k : ℕ) → k < n → f k ≡ g k) → total n f ≡ total n g
 unfolding total
@@ -110,3 +110,16 @@ count-upto (suc n) p = ap length (pick-append (upto n) (n ∷ []) p) ∙ length-
 pub total-next : (i : ℕ) (f : ℕ → ℕ) → total (i + 1) f ≡ total i f + f i
 unfolding total
 total-next i f = ap (λ k. total k f) (add-one i)
+
+-- one more of a distinct list passes
+pub pick-one-more : (l : List ℕ) (h k : ℕ → Bool) (p : ℕ) → T (distinct l) → (T (h p) → ⊥) → T (k p) → ((a : ℕ) → (a ≡ p → ⊥) → k a ≡ h a)
+    → length (pick l k) ≡ length (pick l h) + weigh (member p l) 1
+pick-one-more l h k p t n y o =
+    ⊎-elim (λ m. omega (arith, pick-more l h k p t m n y o, weigh-true (member p l) 1 m))
+    (λ m. omega (arith, ap length (pick-same l h k (λ a u. o a (λ e. m (subst (λ z. T (member z l)) e u)))), weigh-false (member p l) 1 m)) (test-cases (member p l))
+
+-- a weight under two tests
+pub weigh-both : (a b : Bool) (n : ℕ) → weigh a (weigh b n) ≡ weigh (a and b) n
+unfolding weigh _and_
+weigh-both true b n = refl
+weigh-both false b n = refl

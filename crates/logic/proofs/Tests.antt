@@ -1,12 +1,12 @@
 -- Laws of the tests, quantifiers and sums of specs/Tests.antt. Assumes nothing.
 use Prim.Native.Nat.{ℕ, zero, suc, _≤_, _<_}
-use native.Mathlib.Nat.{le-refl, le-step, not-suc-le-zero, le-of-suc-le-suc, lt-of-not-le}
-use mathlib.Core.Path.{_≡_, refl, sym, ap, subst}
+use native.Mathlib.Nat.{le-refl, le-step, not-suc-le-zero, zero-lt-suc, le-of-suc-le-suc, lt-of-not-le}
+use mathlib.Core.Path.{_≡_, refl, sym, _∙_, ap, subst}
 use mathlib.Core.Logic.{_⊎_, inl, inr, ⊎-elim}
-use mathlib.Core.Bool.{Bool, true, false, cond}
+use mathlib.Core.Bool.{Bool, true, false, cond, not}
 use mathlib.Core.List.{List, [], _∷_}
 use lib.Arith.{lt-of-le-ne}
-use lib.Dec.{T, leb, leb→le, le→leb, eqb, eqb→eq, eqb-refl}
+use lib.Dec.{T, leb, leb→le, le→leb, ltb, lt→ltb, eqb, eqb→eq, eqb-refl, eqb·suc-zero}
 use Rattle.logic.specs.Tests.{_and_, _or_, isnt, _implies_, every, some, everyOf, someOf, member, empty}
 
 -- a test passes or does not
@@ -167,3 +167,37 @@ unfolding everyOf someOf
 everyOf-elim [] p t x m = absurd m
 everyOf-elim (y ∷ l) p t x m =
     ⊎-elim (λ e. subst (λ i. T (p i)) (sym (eqb→eq x y e)) (and-left _ _ t)) (λ u. everyOf-elim l p (and-right _ _ t) x u) (or-elim (eqb x y) _ m)
+
+-- tests that are equal
+pub and-true : (a b : Bool) → T b → (a and b) ≡ a
+and-true a b t = test-eq _ _ (and-left a b) (λ s. and-intro a b s t)
+
+pub and-swap : (a b : Bool) → a and b ≡ b and a
+and-swap a b = test-eq _ _ (λ t. and-intro b a (and-right a b t) (and-left a b t)) (λ t. and-intro a b (and-right b a t) (and-left b a t))
+
+-- what is tested under a guard may be shown under it
+pub and-under : (a b c : Bool) → (T a → b ≡ c) → (a and b) ≡ (a and c)
+unfolding _and_
+and-under true b c f = f tt
+and-under false b c f = refl
+
+pub or-false : (a c : Bool) → (T c → ⊥) → (a or c) ≡ a
+or-false a c n = test-eq _ _ (λ t. ⊎-elim (λ u. u) (λ u. absurd (n u)) (or-elim a c t)) (or-left a c)
+
+pub false-or : (a b : Bool) → (T a → ⊥) → b ≡ (a or b)
+false-or a b n = test-eq _ _ (or-right a b) (λ t. ⊎-elim (λ u. absurd (n u)) (λ u. u) (or-elim a b t))
+
+pub true-or : (a b : Bool) → T a → true ≡ (a or b)
+true-or a b t = sym (true-of _ (or-left a b t))
+
+-- a count is 0 or above 0
+pub none-above : (n : ℕ) → isnt (ltb 0 n) ≡ eqb n 0
+unfolding isnt
+none-above zero = refl
+none-above (suc n) = ap isnt (true-of (ltb 0 (suc n)) (lt→ltb 0 (suc n) (zero-lt-suc n))) ∙ sym (eqb·suc-zero n)
+
+-- the library's negation
+pub not-isnt : (b : Bool) → not b ≡ isnt b
+unfolding isnt
+not-isnt true = refl
+not-isnt false = refl

@@ -9,18 +9,13 @@ ghost use Rattle.logic.specs.Verdict.{go, hold, split, «open», verdict};
 ghost use Rattle.report.specs.Text.{wordOf};
 ghost use Rattle.report.specs.Printing.{Put, Markable, Marked, meant, marked};
 use crate::text::put;
+use values::wide;
 
 pub enum Verdict {
     Go,
     Hold,
     Split,
     Open,
-}
-
-fn wide(x: u16) -> usize
-    ensures { λ r. ⌜ r ≡ x ⌝ }
-{
-    x as usize
 }
 
 // 1 at each of the first n lines of a log.

@@ -17,7 +17,8 @@ use Rattle.logic.proofs.Tests.{test-cases, test-eq, of-true, of-false, cond-tru
 use Rattle.logic.proofs.Lists.{member-nil, member-left, member-last, member-snoc, distinct-left, distinct-apart}
 use Rattle.logic.proofs.Sums.{weigh-true, weigh-false}
 use Rattle.logic.proofs.Pigeon.{count-le}
-use Rattle.table.specs.Release.{Ordered, toldBy, Runs, Zeros, Queued, Pushed}
+use Rattle.table.specs.Pairs.{PairsInOrder}
+use Rattle.table.specs.Release.{toldBy, Runs, Zeros, Queued, Pushed}
 use Rattle.table.proofs.Kahn.{pushed, pushed-in, pushed-last, pushed-of, pushed-once, told-ext, step-waits, step-room, step}
 
 -- a push, and none
@@ -135,7 +136,7 @@ taken-in q next end h l =
     subst (λ m. T (member (getD q next 0) m)) (prefix (next + 1) end q (omega arith))
     (member-left (getD q next 0) (take (next + 1) q) _ (rw (add-one next, take-suc q next 0 l) (member-last (take next q) (getD q next 0))))
 
-pub taken-small : (d : Theory) (told : ℕ → Bool) (degree q : List ℕ) (next end r : ℕ) → Ordered d → Queued d told degree (take end q)
+pub taken-small : (d : Theory) (told : ℕ → Bool) (degree q : List ℕ) (next end r : ℕ) → PairsInOrder d → Queued d told degree (take end q)
     → next < end → next < length q → r ≡ getD q next 0 → r < 1024
 taken-small d told degree q next end r o k h l e = omega (arith, k .zeros .below (getD q next 0) (taken-in q next end h l), o .small)
 
@@ -185,7 +186,7 @@ module _ (d : Theory) (queue₀ : List ℕ) (next : ℕ) (fits : next < length q
             most = m;
           }
 
-  module _ (o : Ordered d) (degree queue : List ℕ) (last i : ℕ) (k : Telling d queue₀ next degree queue last i) where
+  module _ (o : PairsInOrder d) (degree queue : List ℕ) (last i : ℕ) (k : Telling d queue₀ next degree queue last i) where
     up-to : take (next + 1) queue ≡ take next queue₀ ++ (getD queue₀ next 0 ∷ [])
     up-to = k .same ∙ rw add-one (take-suc queue₀ next 0 fits)
 

@@ -18,7 +18,8 @@ use Rattle.logic.proofs.Lists.{member-nil, member-left, member-last, member-sno
 use Rattle.logic.proofs.Sums.{total-ext, total-zero, total-const, total-point, weigh-true, weigh-false}
 use Rattle.logic.proofs.Pigeon.{distinct-count, pigeon}
 use Rattle.logic.proofs.Cycle.{cycle-next, set-has-cycle, cycle-flip, cyclic-sound, cyclic-complete}
-use Rattle.table.specs.Release.{Ordered, waits, toldBy, Zeros, inferior, Queued}
+use Rattle.table.specs.Pairs.{PairsInOrder}
+use Rattle.table.specs.Release.{waits, toldBy, Zeros, inferior, Queued}
 
 -- a count of 0 passes nowhere, and another one somewhere
 pub count-none : (n : ℕ) (p : ℕ → Bool) → countBelow n p ≡ 0 → (k : ℕ) → k < n → T (p k) → ⊥
@@ -104,7 +105,7 @@ told-ext d told told' degree q e k =
     }
 
 -- the start: nothing is told, and the queue holds the rules that no pair names as the weaker
-pub queued-start : (d : Theory) → Ordered d → (degree q : List ℕ) → Zeros (d .rules) degree q
+pub queued-start : (d : Theory) → PairsInOrder d → (degree q : List ℕ) → Zeros (d .rules) degree q
     → ((w : ℕ) → w < d .rules → getD degree w 0 ≡ countBelow (d .pairs) (λ i. eqb (d .pair i .weaker) w)) → Queued d (toldBy d []) degree q
 queued-start d o degree q z e =
     record {
@@ -119,7 +120,7 @@ queued-start d o degree q z e =
 
 -- One step: a pair is told whose stronger rule is in the queue, so its weaker rule waits for one less, and is put into the queue
 -- if it waits for none.
-module _ (d : Theory) (o : Ordered d) (told : ℕ → Bool) (degree q : List ℕ) (k : Queued d told degree q) (i : ℕ) (h : i < d .pairs)
+module _ (d : Theory) (o : PairsInOrder d) (told : ℕ → Bool) (degree q : List ℕ) (k : Queued d told degree q) (i : ℕ) (h : i < d .pairs)
     (new : T (told i) → ⊥) (m : T (member (d .pair i .stronger) q)) where
   pub step-waits : 1 ≤ getD degree (d .pair i .weaker) 0
   step-waits =
@@ -219,7 +220,7 @@ module _ (d : Theory) (o : Ordered d) (told : ℕ → Bool) (degree q : List ℕ
         }
 
 -- The end: the rules of the queue were all taken up. Where they are fewer than the rules, the others have a cycle.
-module _ (d : Theory) (o : Ordered d) (degree q : List ℕ) (k : Queued d (toldBy d q) degree q) where
+module _ (d : Theory) (o : PairsInOrder d) (degree q : List ℕ) (k : Queued d (toldBy d q) degree q) where
   -- a rule that is not in the queue
   abbrev left-out : ℕ → Bool
   left-out w = ltb w (d .rules) and isnt (member w q)

@@ -12,15 +12,17 @@ use lib.Seq.{length-take-le}
 use Rattle.logic.specs.Tests.{countBelow}
 use Rattle.table.specs.declared.format.Sizes.{Sizes}
 use Rattle.table.specs.declared.format.Pair.{Pair}
+use Rattle.table.specs.declared.judge.Judgement.the-variants.{Accepted}
 use Rattle.table.specs.Format.{pairAt, theoryIn}
-use Rattle.table.specs.Refusals.{oversize, outOfRange, disorder, cycle}
-use Rattle.table.specs.Release.{Ordered, toldBy, Zeros, Queued}
-use Rattle.table.proofs.Legal.{limited, ranged, stronger-below, weaker-below}
+use Rattle.table.specs.Refusals.{oversize, outOfRange, disorder, cycle, judgementOf}
+use Rattle.table.specs.Pairs.{PairsInOrder}
+use Rattle.table.specs.Release.{toldBy, Zeros, Queued}
+use Rattle.table.proofs.Legal.{legal, limited, ranged, stronger-below, weaker-below}
 use Rattle.table.proofs.Sorted.{before-left, pairs-rise}
 use Rattle.table.proofs.Kahn.{queued-start, queued-end}
 
 module _ (b : List ℕ) (s : Sizes) where
-  pub ordered : oversize s ≡ false → outOfRange b s ≡ false → disorder b s ≡ false → Ordered (theoryIn b s)
+  pub ordered : oversize s ≡ false → outOfRange b s ≡ false → disorder b s ≡ false → PairsInOrder (theoryIn b s)
   unfolding theoryIn
   ordered e f g =
       record {
@@ -31,6 +33,10 @@ module _ (b : List ℕ) (s : Sizes) where
         rising = λ i j l h. ⊎-elim (λ k. le-of-eq (ap (λ n. pairAt b s n .stronger) k)) (λ k. before-left _ _ _ _ (pairs-rise b s g i j k h)) (eq-or-lt-of-le l);
       }
 
+  -- of an accepted table
+  pub pairs-in-order : judgementOf b ≡ Accepted s → PairsInOrder (theoryIn b s)
+  pairs-in-order a = let l = legal b s a in ordered (l .limits) (l .ranges) (l .sorted)
+
   -- a pair that was read
   pub strong-read : (i : ℕ) (p : Pair) → p ≡ pairAt b s i → p .stronger ≡ theoryIn b s .pair i .stronger
   unfolding theoryIn
@@ -40,22 +46,22 @@ module _ (b : List ℕ) (s : Sizes) where
   unfolding theoryIn
   weak-read i p e = ap (λ q. q .weaker) e
 
-  pub weak-small : Ordered (theoryIn b s) → (i : ℕ) (p : Pair) → i < s .pairs → p ≡ pairAt b s i → p .weaker < 1024
+  pub weak-small : PairsInOrder (theoryIn b s) → (i : ℕ) (p : Pair) → i < s .pairs → p ≡ pairAt b s i → p .weaker < 1024
   unfolding theoryIn
   weak-small o i p h e = let g : p .weaker ≡ theoryIn b s .pair i .weaker = weak-read i p e in omega (arith, o .weak i h, o .small)
 
-  pub strong-small : Ordered (theoryIn b s) → (i : ℕ) (p : Pair) → i < s .pairs → p ≡ pairAt b s i → p .stronger < 1024
+  pub strong-small : PairsInOrder (theoryIn b s) → (i : ℕ) (p : Pair) → i < s .pairs → p ≡ pairAt b s i → p .stronger < 1024
   unfolding theoryIn
   strong-small o i p h e = let g : p .stronger ≡ theoryIn b s .pair i .stronger = strong-read i p e in omega (arith, o .strong i h, o .small)
 
   -- the start and the end of the algorithm on a table's pairs
-  pub table-start : Ordered (theoryIn b s) → (degree queue : List ℕ) (end : ℕ) → Zeros (s .rules) degree (take end queue)
+  pub table-start : PairsInOrder (theoryIn b s) → (degree queue : List ℕ) (end : ℕ) → Zeros (s .rules) degree (take end queue)
       → ((w : ℕ) → w < 1024 → getD degree w 0 ≡ countBelow (s .pairs) (λ i. eqb (pairAt b s i .weaker) w))
       → Queued (theoryIn b s) (toldBy (theoryIn b s) (take 0 queue)) degree (take end queue)
   unfolding theoryIn
   table-start o degree queue end z e = queued-start (theoryIn b s) o degree (take end queue) z (λ w h. e w (omega (arith, o .small)))
 
-  pub table-end : Ordered (theoryIn b s) → (degree queue : List ℕ) (all : ℕ) → all ≤ length queue
+  pub table-end : PairsInOrder (theoryIn b s) → (degree queue : List ℕ) (all : ℕ) → all ≤ length queue
       → Queued (theoryIn b s) (toldBy (theoryIn b s) (take all queue)) degree (take all queue) → ltb all (s .rules) ≡ cycle b s
   unfolding theoryIn cycle
   table-end o degree queue all h k =

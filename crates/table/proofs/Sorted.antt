@@ -1,6 +1,6 @@
 -- The ordered sections of an accepted table rise from any place to any later one. Assumes nothing.
 use Prim.Native.Nat.{ℕ, zero, suc, _+_, _-_, _≤_, _<_}
-use native.Mathlib.Nat.{lt-trans, lt-irrefl, le-of-lt, le-of-eq, not-suc-le-zero}
+use native.Mathlib.Nat.{lt-trans, lt-irrefl, le-of-lt, le-of-eq, eq-or-lt-of-le, not-suc-le-zero}
 use native.Mathlib.Numerals.{add-one}
 use native.Mathlib.Omega.{arith}
 use mathlib.Core.Path.{_≡_, refl, sym, _∙_, ap, subst}
@@ -8,12 +8,15 @@ use mathlib.Core.Logic.{_⊎_, inl, inr, ⊎-elim}
 use mathlib.Core.Bool.{false, cond}
 use mathlib.Core.List.{List}
 use lib.Dec.{T, eqb, ltb→lt, eqb→eq}
-use Rattle.logic.specs.Tests.{every}
-use Rattle.logic.proofs.Tests.{test-cases, of-false, isnt-intro, and-left, and-right, or-elim, every-elim, some-intro, lt-suc-cases}
+use Rattle.logic.specs.Tests.{every, member, distinct, upto, pick}
+use Rattle.logic.specs.Theory.{bodyOf}
+use Rattle.logic.proofs.Tests.{test-cases, of-false, isnt-intro, and-left, and-right, or-elim, every-elim, some-intro, lt-suc-cases, at-most}
+use Rattle.logic.proofs.Lists.{member-pick, member-upto, distinct-map, distinct-pick, distinct-upto}
 use Rattle.table.specs.declared.format.Sizes.{Sizes}
-use Rattle.table.specs.Format.{left, right, entriesFrom, pairsFrom, leftIn, rightIn, entryAt, pairAt}
-use Rattle.table.specs.Refusals.{sectionFrom, sectionSize, leftFrom, sectionLeft, sectionRight, rises, disorder}
-use Rattle.table.proofs.Legal.{left-in, right-in}
+use Rattle.table.specs.declared.judge.Judgement.the-variants.{Accepted}
+use Rattle.table.specs.Format.{left, right, entriesFrom, pairsFrom, leftIn, rightIn, entryAt, pairAt, bodyIn, theoryIn}
+use Rattle.table.specs.Refusals.{sectionFrom, sectionSize, leftFrom, sectionLeft, sectionRight, rises, disorder, judgementOf}
+use Rattle.table.proofs.Legal.{legal, left-in, right-in}
 
 -- in the order by left, then right
 pub Before : ℕ → ℕ → ℕ → ℕ → Type 0
@@ -81,3 +84,32 @@ module _ (b : List ℕ) (s : Sizes) (e : disorder b s ≡ false) where
   pub pairs-rise : (i j : ℕ) → i < j → j < s .pairs → Before (pairAt b s i .stronger) (pairAt b s i .weaker) (pairAt b s j .stronger) (pairAt b s j .weaker)
   unfolding sectionFrom sectionSize
   pairs-rise = rise-in 2 (pairsFrom s) (s .pairs) (omega arith) refl refl refl
+
+-- Of an accepted table: the entries of one rule rise by literal, and those with one literal by rule.
+module _ (b : List ℕ) (s : Sizes) (accepted : judgementOf b ≡ Accepted s) (i j : ℕ) (h : i < j) (l : j < s .entries) where
+  pub literals-rise : entryAt b s i .rule ≡ entryAt b s j .rule → entryAt b s i .literal .0 < entryAt b s j .literal .0
+  literals-rise e = before-right _ _ _ _ e (entries-rise b s (legal b s accepted .sorted) i j h l)
+
+  pub rules-rise : entryAt b s i .literal .0 ≡ entryAt b s j .literal .0 → entryAt b s i .rule < entryAt b s j .rule
+  unfolding Before
+  rules-rise e = ⊎-elim (λ a. a) (λ a. absurd (lt-irrefl _ (subst (λ z. z < entryAt b s j .literal .0) e (a .1)))) (entries-rise b s (legal b s accepted .sorted) i j h l)
+
+-- the bodies of an accepted table have no literal twice
+pub bodies-apart : (b : List ℕ) (s : Sizes) → judgementOf b ≡ Accepted s → (r : ℕ) → T (distinct (bodyOf (theoryIn b s) r))
+unfolding theoryIn bodyIn
+bodies-apart b s accepted r =
+    distinct-map (λ i. entryAt b s i .literal .0) (pick (upto (s .entries)) (λ i. eqb (entryAt b s i .rule) r)) (distinct-pick (upto (s .entries)) _ (distinct-upto (s .entries))) one
+  where
+    rises : (i j : ℕ) → T (member i (pick (upto (s .entries)) (λ k. eqb (entryAt b s k .rule) r))) → T (member j (pick (upto (s .entries)) (λ k. eqb (entryAt b s k .rule) r)))
+        → i < j → entryAt b s i .literal .0 < entryAt b s j .literal .0
+    rises i j u v h =
+        let (x, e) = member-pick (upto (s .entries)) _ i u in
+        let (y, f) = member-pick (upto (s .entries)) _ j v in
+        literals-rise b s accepted i j h (member-upto (s .entries) j y) (eqb→eq _ _ e ∙ sym (eqb→eq _ _ f))
+
+    one : (i j : ℕ) → T (member i (pick (upto (s .entries)) (λ k. eqb (entryAt b s k .rule) r))) → T (member j (pick (upto (s .entries)) (λ k. eqb (entryAt b s k .rule) r)))
+        → entryAt b s i .literal .0 ≡ entryAt b s j .literal .0 → i ≡ j
+    one i j u v e =
+        ⊎-elim
+        (λ l. ⊎-elim (λ o. o) (λ h. absurd (lt-irrefl _ (subst (λ z. z < entryAt b s j .literal .0) e (rises i j u v h)))) (eq-or-lt-of-le l))
+        (λ h. absurd (lt-irrefl _ (subst (λ z. entryAt b s j .literal .0 < z) e (rises j i v u h)))) (at-most i j)

@@ -11,15 +11,6 @@ use Rattle.logic.specs.Tests.{_and_, isnt, member, distinct, countBelow}
 use Rattle.logic.specs.Theory.{Theory, superior}
 use Rattle.logic.specs.Cycle.{Leads}
 
--- what is needed of the pairs: they and the rules are few, they name rules that there are, and they stand in the order of the
--- stronger rules
-pub record Ordered (d : Theory) : Type 0 where
-  pub small : d .rules ≤ 1024
-  pub few : d .pairs ≤ 2048
-  pub strong : (i : ℕ) → i < d .pairs → d .pair i .stronger < d .rules
-  pub weak : (i : ℕ) → i < d .pairs → d .pair i .weaker < d .rules
-  pub rising : (i j : ℕ) → i ≤ j → j < d .pairs → d .pair i .stronger ≤ d .pair j .stronger
-
 -- how many pairs that are not told name a rule as the weaker
 abbrev pub waits : Theory → (ℕ → Bool) → ℕ → ℕ
 waits d told w = countBelow (d .pairs) (λ i. eqb (d .pair i .weaker) w and isnt (told i))

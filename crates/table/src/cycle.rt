@@ -8,13 +8,15 @@ ghost use lib.ListN.{length, getD, take, set};
 ghost use Rattle.logic.specs.Tests.{countBelow};
 ghost use Rattle.table.specs.Format.{pairAt, theoryIn, spanOf};
 ghost use Rattle.table.specs.Refusals.{outOfRange, oversize, disorder, cycle};
-ghost use Rattle.table.specs.Release.{Ordered, Runs, Zeros, Reached, Pushed};
+ghost use Rattle.table.specs.Pairs.{PairsInOrder};
+ghost use Rattle.table.specs.Release.{Runs, Zeros, Reached, Pushed};
 use crate::format::Sizes;
 use crate::format::pair_within;
+use values::wide;
 
 // How many pairs name each rule as the weaker.
 fn count_stronger(table: &[u8], s: Sizes, degree: &mut [u16])
-    requires { ⌜ Ordered (theoryIn (now table) s) × (length (now degree) ≡ 1024) × (length (now table) ≡ 10 + 4 * spanOf s) × ((w : ℕ) → w < 1024 → getD (now degree) w 0 ≡ 0) ⌝ }
+    requires { ⌜ PairsInOrder (theoryIn (now table) s) × (length (now degree) ≡ 1024) × (length (now table) ≡ 10 + 4 * spanOf s) × ((w : ℕ) → w < 1024 → getD (now degree) w 0 ≡ 0) ⌝ }
     ensures { λ _. ⌜ ((w : ℕ) → w < 1024 → getD (now (degree .exit)) w 0 ≡ countBelow (s .pairs) (λ i. eqb (pairAt (now (table .entry)) s i .weaker) w)) ⌝ }
 {
     let n = s.pairs as usize;
@@ -29,7 +31,7 @@ fn count_stronger(table: &[u8], s: Sizes, degree: &mut [u16])
 
 // Where the pairs of each stronger rule begin.
 fn find_runs(table: &[u8], s: Sizes, first: &mut [u16])
-    requires { ⌜ Ordered (theoryIn (now table) s) × (length (now first) ≡ 1024) × (length (now table) ≡ 10 + 4 * spanOf s) ⌝ }
+    requires { ⌜ PairsInOrder (theoryIn (now table) s) × (length (now first) ≡ 1024) × (length (now table) ≡ 10 + 4 * spanOf s) ⌝ }
     ensures { λ _. ⌜ Runs (theoryIn (now (table .entry)) s) (now (first .exit)) ⌝ }
 {
     let mut i: u16 = s.pairs;
@@ -78,13 +80,6 @@ fn tell(w: u16, degree: &mut [u16], queue: &mut [u16], end: usize) -> usize
     push_if(queue, end, w, left == 0)
 }
 
-// A word as an index.
-fn wide(n: u16) -> usize
-    ensures { λ r. ⌜ r ≡ n ⌝ }
-{
-    n as usize
-}
-
 // The next rule of the queue is taken up: each pair in which it is the stronger counts no more.
 fn release(
     table: &[u8],
@@ -95,7 +90,7 @@ fn release(
     next: usize,
     end: usize,
 ) -> usize
-    requires { ⌜ Ordered (theoryIn (now table) s) × Runs (theoryIn (now table) s) (now first) × Reached (theoryIn (now table) s) next end (now degree) (now queue) ⌝ }
+    requires { ⌜ PairsInOrder (theoryIn (now table) s) × Runs (theoryIn (now table) s) (now first) × Reached (theoryIn (now table) s) next end (now degree) (now queue) ⌝ }
     requires { ⌜ (length (now first) ≡ 1024) × (length (now degree) ≡ 1024) × (length (now queue) ≡ 1024) × (next < end) × (end ≤ 1024) × (length (now table) ≡ 10 + 4 * spanOf s) ⌝ }
     ensures { λ r. ⌜ (next < r) × (r ≤ 1024) × Reached (theoryIn (now (table .entry)) s) (next + 1) r (now (degree .exit)) (now (queue .exit)) ⌝ }
 {
@@ -123,7 +118,7 @@ fn released(
     queue: &mut [u16],
     start: usize,
 ) -> usize
-    requires { ⌜ Ordered (theoryIn (now table) s) × Runs (theoryIn (now table) s) (now first) × Reached (theoryIn (now table) s) 0 start (now degree) (now queue) ⌝ }
+    requires { ⌜ PairsInOrder (theoryIn (now table) s) × Runs (theoryIn (now table) s) (now first) × Reached (theoryIn (now table) s) 0 start (now degree) (now queue) ⌝ }
     requires { ⌜ (length (now first) ≡ 1024) × (length (now degree) ≡ 1024) × (length (now queue) ≡ 1024) × (start ≤ 1024) × (length (now table) ≡ 10 + 4 * spanOf s) ⌝ }
     ensures { λ r. ⌜ (r ≤ 1024) × Reached (theoryIn (now (table .entry)) s) r r (now (degree .exit)) (now (queue .exit)) ⌝ }
 {

@@ -2,12 +2,12 @@
 ghost use mathlib.Core.Path.{_≡_};
 ghost use Rattle.table.specs.Refusals.{numberOf, oversize, judgementOf};
 use crate::cycle::has_cycle;
-use crate::flags::either;
 use crate::format::Sizes;
 use crate::format::read_sizes;
 use crate::order::unsorted;
 use crate::range::bad_kind;
 use crate::range::out_of_range;
+use values::either;
 
 // The refusals, with document 01's number and word. Numbers 8 and 9 are of the buffers of a run.
 pub enum Refusal {

@@ -7,9 +7,9 @@ ghost use lib.ListN.{length};
 ghost use Rattle.logic.specs.Tests.{some};
 ghost use Rattle.table.specs.Format.{word, spanOf};
 ghost use Rattle.table.specs.Refusals.{oversize, badKind, outOfRange};
-use crate::flags::either;
 use crate::format::Sizes;
 use crate::format::word_within;
+use values::either;
 
 // Whether one of n words within the table is at least the limit. All are looked at: the loop has no other way out.
 fn any_at_least(table: &[u8], base: usize, from: usize, n: u16, limit: u16) -> bool

@@ -1,6 +1,6 @@
 -- `engine::run::run` meets its contract. Assumes nothing.
 use mathlib.Core.Path.{sym, _∙_}
-use Rattle.engine.proofs.Answering.{refused-table}
+use Rattle.engine.proofs.run.Answering.{refused-table}
 use borrow.Author.Needs.{needs}
 use Rattle.engine.proofs.run.run.Statement.{statement}
 use Rattle.engine.proofs.run.run.Tie as tie

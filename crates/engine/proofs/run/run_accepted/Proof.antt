@@ -1,5 +1,5 @@
 -- `engine::run::run_accepted` meets its contract. Assumes nothing.
-use Rattle.engine.proofs.Answering.{size-in, worked-none, refused-scratch, refused-log, ran}
+use Rattle.engine.proofs.run.Answering.{ran, refused-log, refused-scratch, size-in, worked-none}
 use borrow.Author.Needs.{needs}
 use Rattle.engine.proofs.run.run_accepted.Statement.{statement}
 use Rattle.engine.proofs.run.run_accepted.Tie as tie

@@ -1,5 +1,5 @@
 -- `engine::run::run_started` meets its contract. Assumes nothing.
-use Rattle.engine.proofs.Answering.{worked-all}
+use Rattle.engine.proofs.run.Answering.{worked-all}
 use mathlib.Core.Path.{_∙_}
 use borrow.Author.Needs.{needs}
 use Rattle.engine.proofs.run.run_started.Statement.{statement}

@@ -1,7 +1,7 @@
 -- `engine::tally::process` meets its contract. Assumes nothing.
 use native.Mathlib.Omega.{arith}
-use Rattle.engine.proofs.Trying.{few, atoms-in}
-use Rattle.engine.proofs.Tallies.{stepped-stops, stepped-works}
+use Rattle.engine.proofs.run.Trying.{atoms-in, few}
+use Rattle.engine.proofs.run.Tallies.{stepped-stops, stepped-works}
 use borrow.Author.Needs.{needs}
 use Rattle.engine.proofs.tally.process.Statement.{statement}
 use Rattle.engine.proofs.tally.process.Tie as tie
@@ -13,7 +13,10 @@ slice-read-x : tie.Need-slice-read-x
 slice-read-x c = search needs
 
 uses-of-requires : tie.Need-uses-of-requires
-uses-of-requires c κs = (omega (arith, few _ _ (c .before .before .before .before .before .pre .0) .atoms, atoms-in (c .before .before .before .before .before .args .table .now) (c .before .before .before .before .before .args .s), (c .before .before .before .before .before .pre .1 .small)), (c .before .before .before .before .before .pre .1 .logged .ready .standing .room))
+uses-of-requires c κs =
+    let start = c .before .before .before .before .before in
+    let p = start .pre in
+    (p .0, p .1 .logged .ready, omega (arith, atoms-in (start .args .table .now) (start .args .s), p .1 .small))
 
 cost-requires : tie.Need-cost-requires
 cost-requires c κs = ((c .before .before .before .before .before .before .before .pre .0), (c .before .before .before .before .before .before .before .pre .1 .logged .ready), omega (arith, atoms-in (c .before .before .before .before .before .before .before .args .table .now) (c .before .before .before .before .before .before .before .args .s), (c .before .before .before .before .before .before .before .pre .1 .small)), (c .before .before .before .before .before .before .before .pre .1 .new), (c .before .uses-of .ensures))

@@ -52,7 +52,7 @@ use Rattle.table.proofs.format.Sizes.Laws as S′
 use Rattle.engine.specs.declared.tally.Tally.{Tally}
 use Rattle.engine.specs.declared.tally.Progress.{Progress}
 use Rattle.engine.specs.Tallies.{Next, Stepped}
-use Rattle.engine.proofs.Machine.{Fit, mach, machs, tally-fits, progress-fits, made}
+use Rattle.engine.proofs.run.Machine.{Fit, mach, machs, made, progress-fits, tally-fits}
 use Rattle.engine.proofs.tally.Tally as T
 use Rattle.engine.proofs.tally.Tally.Laws as T′
 use Rattle.engine.proofs.tally.Progress as P

@@ -1,8 +1,6 @@
 -- `engine::tally::try_after` meets its contract. Assumes nothing.
 use native.Mathlib.Omega.{arith}
-use Rattle.engine.proofs.Trying.{literal-in}
-use Rattle.engine.proofs.Users.{same-uses}
-use Rattle.engine.proofs.Opening.{logged-added, processed}
+use Rattle.engine.proofs.run.Opening.{logged-added, processed}
 use borrow.Author.Needs.{needs}
 use Rattle.engine.proofs.tally.try_after.Statement.{statement}
 use Rattle.engine.proofs.tally.try_after.Tie as tie
@@ -14,7 +12,9 @@ try-both-requires : tie.Need-try-both-requires
 try-both-requires c κs = ((c .before .before .before .before .before .before .before .before .before .pre .0 .0), omega arith, logged-added (c .before .before .before .before .before .before .before .before .before .pre .0 .1) (c .before .before .before .before .add .ensures))
 
 try-uses-requires : tie.Need-try-uses-requires
-try-uses-requires c κs = ((c .before .before .before .before .before .before .before .before .before .before .before .before .before .before .before .before .pre .0 .0), omega arith, (c .before .before .before .before .before .before .try-both .ensures .logged), same-uses _ _ _ _ _ (c .before .before .before .before .before .before .before .before .before .before .before .before .before .before .before .before .pre .0 .1 .ready .standing .index) (c .before .before .before .before .before .before .try-both .ensures .logged .ready .standing .index) _ (literal-in _ _ _ (omega arith)) (c .before .before .before .before .before .before .before .before .before .before .before .before .before .before .before .before .pre .1))
+try-uses-requires c κs =
+    let p = c .before .before .before .before .before .before .before .before .before .before .before .before .before .before .before .before .pre in
+    (p .0 .0, omega arith, c .before .before .before .before .before .before .try-both .ensures .logged, p .1)
 
 same-length : tie.Need-same-length
 same-length c = search needs

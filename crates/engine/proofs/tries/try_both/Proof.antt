@@ -1,5 +1,5 @@
 -- `engine::tries::try_both` meets its contract. Assumes nothing.
-use Rattle.engine.proofs.Trying.{tried-both}
+use Rattle.engine.proofs.run.Trying.{tried-both}
 use borrow.Author.Needs.{needs}
 use Rattle.engine.proofs.tries.try_both.Statement.{statement}
 use Rattle.engine.proofs.tries.try_both.Tie as tie

@@ -1,5 +1,5 @@
 -- `engine::tries::try_literal` meets its contract. Assumes nothing.
-use Rattle.engine.proofs.Trying.{tried-tags}
+use Rattle.engine.proofs.run.Trying.{tried-tags}
 use borrow.Author.Needs.{needs}
 use Rattle.engine.proofs.tries.try_literal.Statement.{statement}
 use Rattle.engine.proofs.tries.try_literal.Tie as tie

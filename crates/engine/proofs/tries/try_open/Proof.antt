@@ -2,7 +2,7 @@
 use native.Mathlib.Omega.{arith}
 use borrow.Author.Tests.{not-true, not-false}
 use mathlib.Core.Path.{_∙_}
-use Rattle.engine.proofs.Trying.{infers-at, few, skips-unproved, room-for, writes-line}
+use Rattle.engine.proofs.run.Trying.{few, infers-at, room-for, skips-unproved, writes-line}
 use borrow.Author.Needs.{needs}
 use Rattle.engine.proofs.tries.try_open.Statement.{statement}
 use Rattle.engine.proofs.tries.try_open.Tie as tie

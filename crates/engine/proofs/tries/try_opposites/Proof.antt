@@ -1,21 +1,21 @@
 -- `engine::tries::try_opposites` meets its contract. Assumes nothing.
 use native.Mathlib.Omega.{arith}
-use Rattle.engine.proofs.Trying.{few, settled, first-open, second-open, first-written, tried-on}
+use Rattle.engine.proofs.run.Trying.{few, first-open, first-written, second-open, settled, tried-on}
 use borrow.Author.Needs.{needs}
 use Rattle.engine.proofs.tries.try_opposites.Statement.{statement}
 use Rattle.engine.proofs.tries.try_opposites.Tie as tie
 
-is-settled-requires : tie.Need-is-settled-requires
-is-settled-requires c κs = (omega (arith, few _ _ (c .before .before .before .before .pre .0) .atoms), (c .before .before .before .before .pre .2), (c .before .before .before .before .pre .4 .ready .standing .room))
+either-written-requires : tie.Need-either-written-requires
+either-written-requires c κs = (omega (arith, few _ _ (c .before .before .before .before .pre .0) .atoms), (c .before .before .before .before .pre .2), (c .before .before .before .before .pre .4 .ready .invariant .room))
 
 same-length : tie.Need-same-length
 same-length c = search needs
 
 returns : tie.Need-returns
-returns c = settled _ _ (c .before .before .before .before .before .before .pre .0) _ _ (c .before .before .before .before .before .before .pre .1) (c .before .before .before .before .before .before .pre .2) (c .before .before .before .before .before .before .pre .3) _ _ _ (c .before .before .before .before .before .before .pre .4) (c .before .is-settled .ensures) (c .if1 .taken)
+returns c = settled _ _ (c .before .before .before .before .before .before .pre .0) _ _ (c .before .before .before .before .before .before .pre .1) (c .before .before .before .before .before .before .pre .2) (c .before .before .before .before .before .before .pre .3) _ _ _ (c .before .before .before .before .before .before .pre .4) (c .before .either-written .ensures) (c .if1 .taken)
 
 try-open-requires : tie.Need-try-open-requires
-try-open-requires c κs = ((c .before .before .before .before .before .before .before .before .pre .0), (c .before .before .before .before .before .before .before .before .pre .1), omega (arith, (c .before .before .before .before .before .before .before .before .pre .2)), (c .before .before .before .before .before .before .before .before .pre .4), first-open _ _ (c .before .before .before .before .before .before .before .before .pre .0) _ _ (c .before .before .before .before .before .before .before .before .pre .1) (c .before .before .before .before .before .before .before .before .pre .2) (c .before .before .before .before .before .before .before .before .pre .3) _ _ _ (c .before .before .before .before .before .before .before .before .pre .4) (c .before .before .before .is-settled .ensures) (c .before .before .if1 .left))
+try-open-requires c κs = ((c .before .before .before .before .before .before .before .before .pre .0), (c .before .before .before .before .before .before .before .before .pre .1), omega (arith, (c .before .before .before .before .before .before .before .before .pre .2)), (c .before .before .before .before .before .before .before .before .pre .4), first-open _ _ (c .before .before .before .before .before .before .before .before .pre .0) _ _ (c .before .before .before .before .before .before .before .before .pre .1) (c .before .before .before .before .before .before .before .before .pre .2) (c .before .before .before .before .before .before .before .before .pre .3) _ _ _ (c .before .before .before .before .before .before .before .before .pre .4) (c .before .before .before .either-written .ensures) (c .before .before .if1 .left))
 
 same-length-2 : tie.Need-same-length-2
 same-length-2 c = search needs
@@ -30,7 +30,7 @@ add-try-open : tie.Need-add-try-open
 add-try-open c = search needs
 
 try-open-requires-2 : tie.Need-try-open-requires-2
-try-open-requires-2 c κs = ((c .before .before .before .before .before .before .before .before .before .before .before .before .before .before .before .before .pre .0), (c .before .before .before .before .before .before .before .before .before .before .before .before .before .before .before .before .pre .1), omega (arith, (c .before .before .before .before .before .before .before .before .before .before .before .before .before .before .before .before .pre .2)), (c .before .before .before .before .before .before .before .try-open .ensures .logged), second-open _ _ (c .before .before .before .before .before .before .before .before .before .before .before .before .before .before .before .before .pre .0) _ _ (c .before .before .before .before .before .before .before .before .before .before .before .before .before .before .before .before .pre .1) (c .before .before .before .before .before .before .before .before .before .before .before .before .before .before .before .before .pre .2) (c .before .before .before .before .before .before .before .before .before .before .before .before .before .before .before .before .pre .3) _ _ _ (c .before .before .before .before .before .before .before .before .before .before .before .before .before .before .before .before .pre .4) (c .before .before .before .before .before .before .before .before .before .before .before .is-settled .ensures) (c .before .before .before .before .before .before .before .before .before .before .if1 .left) _ _ _ (c .before .before .before .before .before .before .before .try-open .ensures) (c .before .before .if2 .left))
+try-open-requires-2 c κs = ((c .before .before .before .before .before .before .before .before .before .before .before .before .before .before .before .before .pre .0), (c .before .before .before .before .before .before .before .before .before .before .before .before .before .before .before .before .pre .1), omega (arith, (c .before .before .before .before .before .before .before .before .before .before .before .before .before .before .before .before .pre .2)), (c .before .before .before .before .before .before .before .try-open .ensures .logged), second-open _ _ (c .before .before .before .before .before .before .before .before .before .before .before .before .before .before .before .before .pre .0) _ _ (c .before .before .before .before .before .before .before .before .before .before .before .before .before .before .before .before .pre .1) (c .before .before .before .before .before .before .before .before .before .before .before .before .before .before .before .before .pre .2) (c .before .before .before .before .before .before .before .before .before .before .before .before .before .before .before .before .pre .3) _ _ _ (c .before .before .before .before .before .before .before .before .before .before .before .before .before .before .before .before .pre .4) (c .before .before .before .before .before .before .before .before .before .before .before .either-written .ensures) (c .before .before .before .before .before .before .before .before .before .before .if1 .left) _ _ _ (c .before .before .before .before .before .before .before .try-open .ensures) (c .before .before .if2 .left))
 
 same-length-4 : tie.Need-same-length-4
 same-length-4 c = search needs
@@ -45,7 +45,7 @@ pub try-opposites-spec : {M : Type 1} → statement M
 try-opposites-spec =
     tie.close
     (tie.spec
-    is-settled-requires
+    either-written-requires
     same-length
     returns
     try-open-requires

@@ -1,7 +1,7 @@
 -- `engine::tries::try_rule` meets its contract. Assumes nothing.
 use borrow.Author.Tests.{not-true, not-false}
-use Rattle.engine.proofs.Trying.{few}
-use Rattle.engine.proofs.Users.{rule-skipped, rule-visited, head-small}
+use Rattle.engine.proofs.run.Trying.{few}
+use Rattle.engine.proofs.run.Users.{head-small, rule-skipped, rule-visited}
 use borrow.Author.Needs.{needs}
 use Rattle.engine.proofs.tries.try_rule.Statement.{statement}
 use Rattle.engine.proofs.tries.try_rule.Tie as tie

@@ -2,35 +2,47 @@
 use Prim.Native.Nat.{_-_}
 use native.Mathlib.Omega.{arith}
 use Rattle.table.specs.Format.{theoryIn}
-use Rattle.engine.proofs.Trying.{literal-in, rules-in}
-use Rattle.engine.proofs.Users.{Using, using-start, use-small, use-below, using-next, using-end}
+use Rattle.memory.proofs.uses.Users.{uses-few}
+use Rattle.engine.proofs.run.Trying.{literal-in, rules-in}
+use Rattle.engine.proofs.run.Users.{Using, use-below, using-end, using-next, using-start}
 use borrow.Author.Needs.{needs}
 use Rattle.engine.proofs.tries.try_uses.Statement.{statement}
 use Rattle.engine.proofs.tries.try_uses.Tie as tie
 
 abbrev Inv-loop : tie.InvT-loop
-Inv-loop table s mem₀ log₀ lines p definite n₀ end k₀ mem log n k = Using (theoryIn table s) definite p mem₀ log₀ lines k₀ mem log n k
+Inv-loop table s mem₀ log₀ lines p definite uses n₀ end k₀ mem log n k = Using (theoryIn table s) definite p mem₀ log₀ lines k₀ mem log n k
 
 abbrev μ-loop : tie.MeasureT-loop
-μ-loop table s mem₀ log₀ lines p definite n₀ end k₀ mem log n k = end - k
+μ-loop table s mem₀ log₀ lines p definite uses n₀ end k₀ mem log n k = end - k
 
 loop-holds : tie.Need-loop-holds Inv-loop μ-loop
-loop-holds c = using-start _ _ _ (literal-in _ _ _ (c .before .before .before .pre .1)) _ _ _ _ (c .before .before .before .pre .3 .0) (c .before .before .before .pre .2 .ready) (c .before .before .before .pre .2)
+loop-holds c = let p = c .before .before .before .pre in using-start _ _ _ _ _ _ (p .3) (p .2)
 
-load-use-requires : tie.Need-load-use-requires Inv-loop μ-loop
-load-use-requires c κs = (use-small _ _ _ (literal-in _ _ _ (c .before .before .before .before .before .before .pre .1)) _ _ _ _ (c .before .before .before .before .before .before .pre .3 .0) (c .before .before .before .before .before .before .pre .2 .ready) _ _ _ _ (c .before .before .loop .inv) _ (c .before .before .before .before .before .before .pre .3 .1) (c .before .loop-test .taken), (c .before .before .loop .inv .tried .logged .ready .standing .room))
+user-at-requires : tie.Need-user-at-requires Inv-loop μ-loop
+user-at-requires c κs =
+    let l = c .before .before in
+    let p = l .before .before .before .before .pre in
+    (l .loop .inv .tried .logged .ready, p .1, p .3, l .loop .inv .from, c .before .loop-test .taken)
 
 try-rule-requires : tie.Need-try-rule-requires Inv-loop μ-loop
-try-rule-requires c κs = ((c .before .before .before .before .before .before .before .before .before .pre .0), omega (arith, rules-in (c .before .before .before .before .before .before .before .before .before .args .table .now) (c .before .before .before .before .before .before .before .before .before .args .s), use-below _ _ _ (literal-in _ _ _ (c .before .before .before .before .before .before .before .before .before .pre .1)) _ _ _ _ (c .before .before .before .before .before .before .before .before .before .pre .3 .0) (c .before .before .before .before .before .before .before .before .before .pre .2 .ready) _ _ _ _ (c .before .before .before .before .before .loop .inv) _ (c .before .before .before .before .before .before .before .before .before .pre .3 .1) (c .before .before .before .before .loop-test .taken) _ (c .before .before .load-use .ensures)), (c .before .before .before .before .before .loop .inv .tried .logged))
+try-rule-requires c κs =
+    let l = c .before .before .before .before .before in
+    let start = l .before .before .before .before in
+    let p = start .pre in
+    (p .0, omega (arith, rules-in (start .args .table .now) (start .args .s), use-below _ _ _ _ _ _ (p .3) _ _ _ _ (l .loop .inv) (c .before .before .before .before .loop-test .taken) _ (c .before .before .user-at .ensures)), l .loop .inv .tried .logged)
 
 add-k : tie.Need-add-k Inv-loop μ-loop
-add-k c = search needs
+add-k c =
+    let p = c .before .before .before .before .before .before .before .before .before .before .before .before .before .before .pre in
+    record { fits = omega (arith, c .before .before .before .before .before .before .before .before .before .loop-test .taken, uses-few (p .2 .ready) (literal-in _ _ _ (p .1)) (p .3)) }
 
 loop-less : tie.Need-loop-less Inv-loop μ-loop
 loop-less c = search needs
 
 loop-again : tie.Need-loop-again Inv-loop μ-loop
-loop-again c = using-next _ _ _ (literal-in _ _ _ (c .before .before .before .before .before .before .before .before .before .before .before .before .before .before .pre .1)) _ _ _ _ (c .before .before .before .before .before .before .before .before .before .before .before .before .before .before .pre .3 .0) (c .before .before .before .before .before .before .before .before .before .before .before .before .before .before .pre .2 .ready) _ _ _ _ (c .before .before .before .before .before .before .before .before .before .before .loop .inv) _ (c .before .before .before .before .before .before .before .before .before .before .before .before .before .before .pre .3 .1) (c .before .before .before .before .before .before .before .before .before .loop-test .taken) _ (c .before .before .before .before .before .before .before .load-use .ensures) _ _ _ (c .before .before .before .before .try-rule .ensures)
+loop-again c =
+    let l = c .before .before .before .before .before .before .before .before .before .before in
+    using-next _ _ _ _ _ _ (l .before .before .before .before .pre .3) _ _ _ _ (l .loop .inv) (c .before .before .before .before .before .before .before .before .before .loop-test .taken) _ (c .before .before .before .before .before .before .before .user-at .ensures) _ _ _ (c .before .before .before .before .try-rule .ensures)
 
 same-length : tie.Need-same-length Inv-loop μ-loop
 same-length c = search needs
@@ -39,7 +51,7 @@ same-length-2 : tie.Need-same-length-2 Inv-loop μ-loop
 same-length-2 c = search needs
 
 returns : tie.Need-returns Inv-loop μ-loop
-returns c = using-end _ _ _ (literal-in _ _ _ (c .before .before .before .before .before .pre .1)) _ _ _ _ (c .before .before .before .before .before .pre .3 .0) (c .before .before .before .before .before .pre .2 .ready) _ _ _ _ (c .before .loop .inv) _ (c .before .before .before .before .before .pre .3 .1) (c .loop-test .left)
+returns c = using-end _ _ _ _ _ _ (c .before .before .before .before .before .pre .3) _ _ _ _ (c .before .loop .inv) (c .loop-test .left)
 
 pub try-uses-spec : {M : Type 1} → statement M
 try-uses-spec =
@@ -48,7 +60,7 @@ try-uses-spec =
     Inv-loop
     μ-loop
     loop-holds
-    load-use-requires
+    user-at-requires
     try-rule-requires
     add-k
     loop-less

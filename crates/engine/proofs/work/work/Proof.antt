@@ -3,17 +3,18 @@
 use Prim.Native.Nat.{_-_, _*_}
 use native.Mathlib.Omega.{arith}
 use Rattle.table.specs.Format.{theoryIn}
-use Rattle.engine.proofs.Trying.{atoms-in, proper-in, lines-most}
-use Rattle.engine.proofs.Worklist.{Stands, stands-start, stands-done, stands-asks, stands-stopped, stands-next, stands-less}
+use Rattle.engine.proofs.run.Trying.{atoms-in, lines-most, proper-in}
+use Rattle.engine.proofs.run.Worklist.{Stands, stands-asks, stands-done, stands-less, stands-next, stands-start, stands-stopped}
 use borrow.Author.Needs.{needs}
 use Rattle.engine.proofs.work.work.Statement.{statement}
 use Rattle.engine.proofs.work.work.Tie as tie
+use Rattle.memory.specs.Layout.{tagCount}
 
 abbrev Inv-loop : tie.InvT-loop
 Inv-loop table s budget mem₀ log₀ opened start at₀ mem log at = Stands (theoryIn table s) budget mem₀ log₀ mem log (at .lines) (at .tally)
 
 abbrev μ-loop : tie.MeasureT-loop
-μ-loop table s budget mem₀ log₀ opened start at₀ mem log at = 4 * s .atoms - at .tally .worked
+μ-loop table s budget mem₀ log₀ opened start at₀ mem log at = tagCount * s .atoms - at .tally .worked
 
 loop-holds : tie.Need-loop-holds Inv-loop μ-loop
 loop-holds c = stands-start _ (proper-in _ _ (c .before .before .before .pre .0 .0)) _ _ _ _ _ (c .before .before .before .pre .0 .1) (c .before .before .before .pre .0 .2) (c .before .before .before .pre .0 .3) (c .before .before .before .pre .1 .0) (c .before .before .before .pre .1 .1)

@@ -7,14 +7,15 @@ use Rattle.logic.specs.Tests.{upto}
 use Rattle.logic.specs.Reading.{withTags}
 use Rattle.table.specs.Format.{theoryIn}
 use Rattle.engine.specs.Working.{Tried}
-use Rattle.engine.proofs.Trying.{few, atoms-in}
-use Rattle.engine.proofs.Opening.{opening-start, opening-next, opening-end}
+use Rattle.engine.proofs.run.Trying.{atoms-in, few}
+use Rattle.engine.proofs.run.Opening.{opening-end, opening-next, opening-start}
 use borrow.Author.Needs.{needs}
 use Rattle.engine.proofs.work.write_initial.Statement.{statement}
 use Rattle.engine.proofs.work.write_initial.Tie as tie
+use Rattle.memory.specs.Layout.{tagCount}
 
 abbrev Inv-loop : tie.InvT-loop
-Inv-loop table s mem₀ log₀ end n₀ q₀ mem log n q = (end ≡ 2 * s .atoms) × (q ≤ end) × Tried (theoryIn table s) (withTags 4 (upto q)) mem₀ log₀ 0 mem log n
+Inv-loop table s mem₀ log₀ end n₀ q₀ mem log n q = (end ≡ 2 * s .atoms) × (q ≤ end) × Tried (theoryIn table s) (withTags tagCount (upto q)) mem₀ log₀ 0 mem log n
 
 abbrev μ-loop : tie.MeasureT-loop
 μ-loop table s mem₀ log₀ end n₀ q₀ mem log n q = end - q

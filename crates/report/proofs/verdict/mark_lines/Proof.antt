@@ -10,7 +10,6 @@ use Rattle.report.proofs.verdict.mark_lines.Statement.{statement}
 use Rattle.report.proofs.verdict.mark_lines.Tie as tie
 use Rattle.report.proofs.verdict.mark_lines.Reads as reads
 use Rattle.report.proofs.verdict.mark_lines.Lts as lts
-use Rattle.report.proofs.verdict.wide.Reads as wide-reads
 
 abbrev Inv-loop : tie.InvT-loop
 Inv-loop log n marks₀ i₀ marks i = (i ≤ n) × (length marks ≡ 4096) × Marked (take i log) marks

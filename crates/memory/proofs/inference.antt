@@ -1,0 +1,4 @@
+-- Laws of the tests and of the cost.
+pub mod Counting
+pub mod Following
+pub mod Costing

@@ -1,0 +1,60 @@
+-- `memory::inference::cost` meets its contract. The loop's invariant: the sum is 1 and the costs of the uses passed. Assumes nothing.
+use Prim.Native.Nat.{_+_, _-_, _*_, _%_, _≤_}
+use native.Mathlib.Omega.{arith}
+use mathlib.Core.Path.{_≡_, _∙_, ap}
+use Rattle.memory.specs.Layout.{tagCount, usesSize}
+use Rattle.memory.specs.Memory.{view, useAt}
+use Rattle.memory.specs.Deciding.{chargeBy}
+use Rattle.memory.proofs.inference.Costing.{cost-all, cost-next, cost-none, costSoFar, rule-used, uses-within}
+use borrow.Author.Needs.{needs}
+use Rattle.memory.proofs.inference.cost.Statement.{statement}
+use Rattle.memory.proofs.inference.cost.Tie as tie
+
+abbrev Inv-loop : tie.InvT-loop
+Inv-loop table mem x t sum₀ end k₀ sum k = (k₀ ≤ k) × (k ≤ end) × (end ≤ usesSize) × (sum ≡ costSoFar (λ i. chargeBy (view mem) t (useAt mem i)) k₀ k) × (sum ≤ 1 + 65536 * k)
+
+abbrev μ-loop : tie.MeasureT-loop
+μ-loop table mem x t sum₀ end k₀ sum k = end - k
+
+loop-holds : tie.Need-loop-holds Inv-loop μ-loop
+loop-holds c = let w = uses-within _ _ _ _ (c .before .before .pre .0) (c .before .before .pre .1) (c .before .before .pre .2) (c .before .before .pre .4) in (omega arith, w .0, w .1, cost-none (λ i. chargeBy (view (c .before .before .args .mem .now)) ((c .before .before .args .x) % tagCount) (useAt (c .before .before .args .mem .now) i)) _, omega arith)
+
+load-use-requires : tie.Need-load-use-requires Inv-loop μ-loop
+load-use-requires c κs = (omega (arith, (c .before .loop .inv .2)), (c .before .before .before .before .pre .1 .invariant .room))
+
+cast-charge : tie.Need-cast-charge Inv-loop μ-loop
+cast-charge c = search needs
+
+charge-requires : tie.Need-charge-requires Inv-loop μ-loop
+charge-requires c κs = (omega (arith, rule-used _ _ _ _ (c .before .before .before .before .before .pre .0) (c .before .before .before .before .before .pre .1) (c .before .before .before .before .before .pre .2) (c .before .before .before .before .before .pre .4) (c .before .before .loop .k) (c .before .before .loop .inv .0) (c .before .loop-test .taken)), (c .before .before .before .before .before .pre .1 .invariant .room))
+
+add-sum : tie.Need-add-sum Inv-loop μ-loop
+add-sum c = search needs
+
+add-k : tie.Need-add-k Inv-loop μ-loop
+add-k c = search needs
+
+loop-less : tie.Need-loop-less Inv-loop μ-loop
+loop-less c = search needs
+
+loop-again : tie.Need-loop-again Inv-loop μ-loop
+loop-again c = (omega arith, omega arith, (c .before .before .before .loop .inv .2), cost-next (λ i. chargeBy (view (c .before .before .before .before .before .before .args .mem .now)) ((c .before .before .before .before .before .before .args .x) % tagCount) (useAt (c .before .before .before .before .before .before .args .mem .now) i)) _ _ (c .before .before .before .loop .inv .0) (c .before .before .before .loop .inv .3) ((c .charge .ensures .0) ∙ ap (chargeBy (view (c .before .before .before .before .before .before .args .mem .now)) _) (c .before .load-use .ensures)), omega arith)
+
+returns : tie.Need-returns Inv-loop μ-loop
+returns c = cost-all _ _ _ _ (c .before .before .before .before .pre .0) (c .before .before .before .before .pre .1) (c .before .before .before .before .pre .2) (c .before .before .before .before .pre .4) (c .before .before .before .before .pre .3) (c .before .loop .inv .1) (c .loop-test .left) (c .before .loop .inv .3)
+
+pub cost-spec : {M : Type 1} → statement M
+cost-spec =
+    tie.close
+    (tie.spec
+    Inv-loop
+    μ-loop
+    loop-holds
+    load-use-requires
+    cast-charge
+    charge-requires
+    add-sum
+    add-k
+    loop-less
+    loop-again
+    returns)

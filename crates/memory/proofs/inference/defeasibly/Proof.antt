@@ -1,0 +1,52 @@
+-- `memory::inference::defeasibly` meets its contract. Assumes nothing.
+use borrow.Author.Tests.{not-true, not-false}
+use Rattle.memory.specs.Memory.{view}
+use Rattle.memory.proofs.inference.Following.{defeasibly-countered, defeasibly-definite, defeasibly-opposed, defeasibly-unsupported}
+use borrow.Author.Needs.{needs}
+use Rattle.memory.proofs.inference.defeasibly.Statement.{statement}
+use Rattle.memory.proofs.inference.defeasibly.Tie as tie
+
+is-processed-requires : tie.Need-is-processed-requires
+is-processed-requires c κs = search needs
+
+returns : tie.Need-returns
+returns c = defeasibly-definite (view (c .before .before .before .args .mem .now)) _ (c .before .is-processed .ensures) (c .if1 .taken)
+
+load-requires : tie.Need-load-requires
+load-requires c κs = search needs
+
+returns-2 : tie.Need-returns-2
+returns-2 c = defeasibly-unsupported (view (c .before .before .before .before .before .args .mem .now)) _ (c .before .before .before .is-processed .ensures) (c .before .before .if1 .left) (c .before .load .ensures) (c .if2 .taken)
+
+other-requires : tie.Need-other-requires
+other-requires c κs = search needs
+
+is-processed-requires-2 : tie.Need-is-processed-requires-2
+is-processed-requires-2 c κs = search needs
+
+returns-3 : tie.Need-returns-3
+returns-3 c = defeasibly-opposed (view (c .before .before .before .before .before .before .before .before .args .mem .now)) _ (c .before .before .before .before .before .before .is-processed .ensures) (c .before .before .before .before .before .if1 .left) (c .before .before .before .before .load .ensures) (c .before .before .before .if2 .left) (c .before .before .other .ensures) (c .before .is-processed2 .ensures) (not-true _ (c .if3 .taken))
+
+load-requires-2 : tie.Need-load-requires-2
+load-requires-2 c κs = search needs
+
+load-requires-3 : tie.Need-load-requires-3
+load-requires-3 c κs = search needs
+
+returns-4 : tie.Need-returns-4
+returns-4 c = defeasibly-countered (view (c .before .before .before .before .before .before .before .before .before .before .args .mem .now)) _ (c .before .before .before .before .before .before .before .before .is-processed .ensures) (c .before .before .before .before .before .before .before .if1 .left) (c .before .before .before .before .before .before .load .ensures) (c .before .before .before .before .before .if2 .left) (c .before .before .before .before .other .ensures) (c .before .before .before .is-processed2 .ensures) (not-false _ (c .before .before .if3 .left)) (c .before .load2 .ensures) (c .load3 .ensures)
+
+pub defeasibly-spec : {M : Type 1} → statement M
+defeasibly-spec =
+    tie.close
+    (tie.spec
+    is-processed-requires
+    returns
+    load-requires
+    returns-2
+    other-requires
+    is-processed-requires-2
+    returns-3
+    load-requires-2
+    load-requires-3
+    returns-4)

@@ -1,0 +1,52 @@
+-- `memory::inference::not_defeasibly` meets its contract. Assumes nothing.
+use borrow.Author.Tests.{not-true, not-false}
+use Rattle.memory.specs.Memory.{view}
+use Rattle.memory.proofs.inference.Following.{not-defeasibly-beaten, not-defeasibly-open, not-defeasibly-refuted, not-defeasibly-unsupported}
+use borrow.Author.Needs.{needs}
+use Rattle.memory.proofs.inference.not_defeasibly.Statement.{statement}
+use Rattle.memory.proofs.inference.not_defeasibly.Tie as tie
+
+is-processed-requires : tie.Need-is-processed-requires
+is-processed-requires c κs = search needs
+
+returns : tie.Need-returns
+returns c = not-defeasibly-open (view (c .before .before .before .args .mem .now)) _ (c .before .is-processed .ensures) (not-true _ (c .if1 .taken))
+
+load-requires : tie.Need-load-requires
+load-requires c κs = search needs
+
+load-requires-2 : tie.Need-load-requires-2
+load-requires-2 c κs = search needs
+
+returns-2 : tie.Need-returns-2
+returns-2 c = not-defeasibly-unsupported (view (c .before .before .before .before .before .before .args .mem .now)) _ (c .before .before .before .before .is-processed .ensures) (not-false _ (c .before .before .before .if1 .left)) (c .before .before .load .ensures) (c .before .load2 .ensures) (c .if2 .taken)
+
+other-requires : tie.Need-other-requires
+other-requires c κs = search needs
+
+is-processed-requires-2 : tie.Need-is-processed-requires-2
+is-processed-requires-2 c κs = search needs
+
+returns-3 : tie.Need-returns-3
+returns-3 c = not-defeasibly-refuted (view (c .before .before .before .before .before .before .before .before .before .args .mem .now)) _ (c .before .before .before .before .before .before .before .is-processed .ensures) (not-false _ (c .before .before .before .before .before .before .if1 .left)) (c .before .before .before .before .before .load .ensures) (c .before .before .before .before .load2 .ensures) (c .before .before .before .if2 .left) (c .before .before .other .ensures) (c .before .is-processed2 .ensures) (c .if3 .taken)
+
+load-requires-3 : tie.Need-load-requires-3
+load-requires-3 c κs = search needs
+
+returns-4 : tie.Need-returns-4
+returns-4 c = not-defeasibly-beaten (view (c .before .before .before .before .before .before .before .before .before .before .args .mem .now)) _ (c .before .before .before .before .before .before .before .before .is-processed .ensures) (not-false _ (c .before .before .before .before .before .before .before .if1 .left)) (c .before .before .before .before .before .before .load .ensures) (c .before .before .before .before .before .load2 .ensures) (c .before .before .before .before .if2 .left) (c .before .before .before .other .ensures) (c .before .before .is-processed2 .ensures) (c .before .if3 .left) (c .load3 .ensures)
+
+pub not-defeasibly-spec : {M : Type 1} → statement M
+not-defeasibly-spec =
+    tie.close
+    (tie.spec
+    is-processed-requires
+    returns
+    load-requires
+    load-requires-2
+    returns-2
+    other-requires
+    is-processed-requires-2
+    returns-3
+    load-requires-3
+    returns-4)

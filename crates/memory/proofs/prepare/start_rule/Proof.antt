@@ -1,0 +1,41 @@
+-- `memory::prepare::start_rule` meets its contract. Assumes nothing.
+use native.Mathlib.Omega.{arith}
+use borrow.Author.Tests.{not-true, not-false}
+use Rattle.memory.proofs.visit.Accepted.{decide-asks, definite-asks, reaches-asks, visit-decided, visit-undecided}
+use Rattle.memory.proofs.index.Starting.{first-asks, second-asks, started-next}
+use borrow.Author.Needs.{needs}
+use Rattle.memory.proofs.prepare.start_rule.Statement.{statement}
+use Rattle.memory.proofs.prepare.start_rule.Tie as tie
+
+visit-definite-requires : tie.Need-visit-definite-requires
+visit-definite-requires c κs = definite-asks _ _ _ _ _ (first-asks _ _ _ (c .before .before .before .pre .0) (c .before .before .before .pre .1) (c .before .before .before .pre .2)) (omega arith)
+
+reaches-requires : tie.Need-reaches-requires
+reaches-requires c κs = reaches-asks _ _ _ _ _ (second-asks _ _ _ (c .before .before .before .before .before .before .before .pre .0) (c .before .before .before .before .before .before .before .pre .1) (c .before .before .before .before .before .before .before .pre .2) (c .before .before .before .visit-definite .ensures))
+
+same-length : tie.Need-same-length
+same-length c = search needs
+
+returns : tie.Need-returns
+returns c = started-next _ _ _ (c .before .before .before .before .before .before .before .before .before .before .before .pre .1) (c .before .before .before .before .before .before .before .visit-definite .ensures) (visit-undecided _ _ _ _ _ (second-asks _ _ _ (c .before .before .before .before .before .before .before .before .before .before .before .pre .0) (c .before .before .before .before .before .before .before .before .before .before .before .pre .1) (c .before .before .before .before .before .before .before .before .before .before .before .pre .2) (c .before .before .before .before .before .before .before .visit-definite .ensures)) _ (c .before .before .before .reaches .ensures) (not-true _ (c .if1 .taken)))
+
+decide-requires : tie.Need-decide-requires
+decide-requires c κs = decide-asks _ _ _ _ _ (second-asks _ _ _ (c .before .before .before .before .before .before .before .before .before .before .before .before .pre .0) (c .before .before .before .before .before .before .before .before .before .before .before .before .pre .1) (c .before .before .before .before .before .before .before .before .before .before .before .before .pre .2) (c .before .before .before .before .before .before .before .before .visit-definite .ensures)) _ (c .before .before .before .before .reaches .ensures) (not-false _ (c .before .if1 .left)) (omega arith)
+
+same-length-2 : tie.Need-same-length-2
+same-length-2 c = search needs
+
+returns-2 : tie.Need-returns-2
+returns-2 c = started-next _ _ _ (c .before .before .before .before .before .before .before .before .before .before .before .before .before .before .before .pre .1) (c .before .before .before .before .before .before .before .before .before .before .before .visit-definite .ensures) (visit-decided _ _ _ _ _ (second-asks _ _ _ (c .before .before .before .before .before .before .before .before .before .before .before .before .before .before .before .pre .0) (c .before .before .before .before .before .before .before .before .before .before .before .before .before .before .before .pre .1) (c .before .before .before .before .before .before .before .before .before .before .before .before .before .before .before .pre .2) (c .before .before .before .before .before .before .before .before .before .before .before .visit-definite .ensures)) _ (c .before .before .before .before .before .before .before .reaches .ensures) _ (c .before .before .decide .ensures))
+
+pub start-rule-spec : {M : Type 1} → statement M
+start-rule-spec =
+    tie.close
+    (tie.spec
+    visit-definite-requires
+    reaches-requires
+    same-length
+    returns
+    decide-requires
+    same-length-2
+    returns-2)

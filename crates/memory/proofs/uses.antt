@@ -1,0 +1,2 @@
+-- Laws of the uses of literals.
+pub mod Users

@@ -1,0 +1,29 @@
+-- `memory::visit::add` meets its contract. Assumes nothing.
+use mathlib.Core.Path.{refl}
+use Rattle.memory.proofs.visit.Adding.{added-of, mark-asks, uses-asks}
+use borrow.Author.Needs.{needs}
+use Rattle.memory.proofs.visit.add.Statement.{statement}
+use Rattle.memory.proofs.visit.add.Tie as tie
+
+visit-uses-requires : tie.Need-visit-uses-requires
+visit-uses-requires c κs = let a = uses-asks _ _ _ _ _ _ refl refl (c .before .before .before .pre .0) in (a .0, (a .1 .0, a .1 .1, (c .before .before .before .pre .1)))
+
+wide-requires : tie.Need-wide-requires
+wide-requires c κs = search needs
+
+wide-requires-2 : tie.Need-wide-requires-2
+wide-requires-2 c κs = search needs
+
+store-requires : tie.Need-store-requires
+store-requires c κs = mark-asks _ _ _ _ _ _ refl refl (c .before .before .before .before .before .before .before .before .before .pre .0) _ _ _ (c .before .wide .ensures) (c .wide2 .ensures) (c .before .before .before .before .before .visit-uses .ensures)
+
+same-length : tie.Need-same-length
+same-length c = search needs
+
+returns : tie.Need-returns
+returns c = added-of _ _ _ _ _ _ refl refl (c .before .before .before .before .before .before .before .before .before .before .before .before .pre .0) _ _ _ _ (c .before .before .before .before .wide .ensures) (c .before .before .before .wide2 .ensures) (c .before .before .before .before .before .before .before .before .visit-uses .ensures) (c .before .before .store .ensures)
+
+pub add-spec : {M : Type 1} → statement M
+add-spec =
+    tie.close
+    (tie.spec visit-uses-requires wide-requires wide-requires-2 store-requires same-length returns)

@@ -1,0 +1,20 @@
+-- `memory::visit::bump_if` meets its contract. Assumes nothing.
+use Rattle.memory.proofs.visit.Steps.{raised-no, raised-yes}
+use borrow.Author.Needs.{needs}
+use Rattle.memory.proofs.visit.bump_if.Statement.{statement}
+use Rattle.memory.proofs.visit.bump_if.Tie as tie
+
+bump-requires : tie.Need-bump-requires
+bump-requires c κs = search needs
+
+same-length : tie.Need-same-length
+same-length c = search needs
+
+returns : tie.Need-returns
+returns c = raised-yes _ _ _ _ _ (c .before .before .before .before .if1 .taken) (c .before .before .before .before .before .before .pre .0) (c .before .before .before .before .before .before .pre .1) (c .before .before .before .before .before .before .pre .2) (c .before .before .bump .ensures)
+
+returns-2 : tie.Need-returns-2
+returns-2 c = raised-no _ _ _ _ (c .if1 .left)
+
+pub bump-if-spec : {M : Type 1} → statement M
+bump-if-spec = tie.close (tie.spec bump-requires same-length returns returns-2)

@@ -1,0 +1,47 @@
+-- `memory::visit::visit` meets its contract. Assumes nothing.
+use borrow.Author.Tests.{not-true, not-false}
+use Rattle.memory.proofs.visit.Accepted.{decide-asks, definite-asks, reaches-asks, visit-decided, visit-undecided}
+use borrow.Author.Needs.{needs}
+use Rattle.memory.proofs.visit.visit.Statement.{statement}
+use Rattle.memory.proofs.visit.visit.Tie as tie
+
+visit-definite-requires : tie.Need-visit-definite-requires
+visit-definite-requires c κs = definite-asks _ _ _ _ _ (c .before .before .before .before .pre) (c .before .if1 .taken)
+
+same-length : tie.Need-same-length
+same-length c = search needs
+
+returns : tie.Need-returns
+returns c = search needs
+
+reaches-requires : tie.Need-reaches-requires
+reaches-requires c κs = reaches-asks _ _ _ _ _ (c .before .before .before .before .pre)
+
+same-length-2 : tie.Need-same-length-2
+same-length-2 c = search needs
+
+returns-2 : tie.Need-returns-2
+returns-2 c = visit-undecided _ _ _ _ _ (c .before .before .before .before .before .before .before .before .pre) _ (c .before .before .before .reaches .ensures) (not-true _ (c .if2 .taken))
+
+decide-requires : tie.Need-decide-requires
+decide-requires c κs = decide-asks _ _ _ _ _ (c .before .before .before .before .before .before .before .before .before .pre) _ (c .before .before .before .before .reaches .ensures) (not-false _ (c .before .if2 .left)) (c .before .before .before .before .before .before .if1 .left)
+
+same-length-3 : tie.Need-same-length-3
+same-length-3 c = search needs
+
+returns-3 : tie.Need-returns-3
+returns-3 c = visit-decided _ _ _ _ _ (c .before .before .before .before .before .before .before .before .before .before .before .before .pre) _ (c .before .before .before .before .before .before .before .reaches .ensures) _ (c .before .before .decide .ensures)
+
+pub visit-spec : {M : Type 1} → statement M
+visit-spec =
+    tie.close
+    (tie.spec
+    visit-definite-requires
+    same-length
+    returns
+    reaches-requires
+    same-length-2
+    returns-2
+    decide-requires
+    same-length-3
+    returns-3)

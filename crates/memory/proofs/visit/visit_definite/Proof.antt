@@ -1,0 +1,57 @@
+-- `memory::visit::visit_definite` meets its contract. Assumes nothing.
+use native.Mathlib.Omega.{arith}
+use mathlib.Core.Path.{_∙_}
+use borrow.Author.Tests.{not-true, not-false}
+use Rattle.table.specs.Format.{theoryIn}
+use Rattle.memory.proofs.visit.Steps.{definite-end, definite-small, undecided}
+use borrow.Author.Needs.{needs}
+use Rattle.memory.proofs.visit.visit_definite.Statement.{statement}
+use Rattle.memory.proofs.visit.visit_definite.Tie as tie
+
+reaches-requires : tie.Need-reaches-requires
+reaches-requires c κs = ((c .before .before .before .pre .1 .0), omega (arith, (c .before .before .before .pre .0 .3)), (c .before .before .before .pre .1 .1), (c .before .before .before .pre .0 .4))
+
+same-length : tie.Need-same-length
+same-length c = search needs
+
+returns : tie.Need-returns
+unfolding theoryIn
+returns c = undecided _ _ _ _ _ (omega (arith, (c .before .before .before .before .before .before .before .pre .0 .3))) (c .before .before .before .before .before .before .before .pre .0 .2) (c .before .before .before .before .before .before .before .pre .0 .1) (c .before .before .before .before .before .before .before .pre .0 .4) (c .before .before .before .reaches .ensures .0) (c .before .before .before .reaches .ensures .1) (not-true _ (c .if1 .taken))
+
+load-requires : tie.Need-load-requires
+load-requires c κs = search needs
+
+wide-requires : tie.Need-wide-requires
+wide-requires c κs = search needs
+
+load-requires-2 : tie.Need-load-requires-2
+load-requires-2 c κs = search needs
+
+add-bump-if : tie.Need-add-bump-if
+add-bump-if c = search needs
+
+bump-if-requires : tie.Need-bump-if-requires
+unfolding theoryIn
+bump-if-requires c κs = definite-small _ _ _ _ _ (omega (arith, (c .before .before .before .before .before .before .before .before .before .before .before .before .before .pre .0 .3))) (c .before .before .before .before .before .before .before .before .before .before .before .before .before .pre .0 .2) (c .before .before .before .before .before .before .before .before .before .before .before .before .before .pre .0 .1) (c .before .before .before .before .before .before .before .before .before .before .before .before .before .pre .0 .4) (c .before .before .before .before .before .before .before .before .before .reaches .ensures .0) (c .before .before .before .before .before .before .before .before .before .reaches .ensures .1) (not-false _ (c .before .before .before .before .before .before .if1 .left)) ((c .before .before .before .wide .ensures) ∙ (c .before .before .before .before .load .ensures)) (c .before .load2 .ensures) (c .before .before .before .before .before .before .before .before .before .before .before .before .before .pre .0 .0) (c .before .before .before .before .before .before .before .before .before .before .before .before .before .pre .0 .3)
+
+same-length-2 : tie.Need-same-length-2
+same-length-2 c = search needs
+
+returns-2 : tie.Need-returns-2
+unfolding theoryIn
+returns-2 c = definite-end _ _ _ _ _ (omega (arith, (c .before .before .before .before .before .before .before .before .before .before .before .before .before .before .before .before .pre .0 .3))) (c .before .before .before .before .before .before .before .before .before .before .before .before .before .before .before .before .pre .0 .2) (c .before .before .before .before .before .before .before .before .before .before .before .before .before .before .before .before .pre .0 .1) (c .before .before .before .before .before .before .before .before .before .before .before .before .before .before .before .before .pre .0 .4) (c .before .before .before .before .before .before .before .before .before .before .before .before .reaches .ensures .0) (c .before .before .before .before .before .before .before .before .before .before .before .before .reaches .ensures .1) (not-false _ (c .before .before .before .before .before .before .before .before .before .if1 .left)) ((c .before .before .before .before .before .before .wide .ensures) ∙ (c .before .before .before .before .before .before .before .load .ensures)) (c .before .before .before .before .load2 .ensures) _ (c .before .before .before .before .before .before .before .before .before .before .before .before .before .before .before .before .pre .0 .3) (c .before .before .bump-if .ensures)
+
+pub visit-definite-spec : {M : Type 1} → statement M
+visit-definite-spec =
+    tie.close
+    (tie.spec
+    reaches-requires
+    same-length
+    returns
+    load-requires
+    wide-requires
+    load-requires-2
+    add-bump-if
+    bump-if-requires
+    same-length-2
+    returns-2)

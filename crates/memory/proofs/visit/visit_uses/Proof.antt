@@ -1,0 +1,61 @@
+-- `memory::visit::visit_uses` meets its contract. The loop's invariant is `Spreading` of proofs/visit/Adding.antt: the uses before the k-th are visited. Assumes nothing.
+use Prim.Native.Nat.{_-_}
+use Rattle.table.specs.Format.{theoryIn}
+use Rattle.memory.proofs.visit.Accepted.{asks-wide, visit-wide}
+use Rattle.memory.proofs.visit.Adding.{Spreading, use-asks-small, uses-end-of, uses-next-of, uses-start-of, visit-asks}
+use borrow.Author.Needs.{needs}
+use Rattle.memory.proofs.visit.visit_uses.Statement.{statement}
+use Rattle.memory.proofs.visit.visit_uses.Tie as tie
+
+abbrev Inv-loop : tie.InvT-loop
+Inv-loop table s mem₀ p t end k₀ mem k = Spreading (theoryIn table s) p t k₀ mem₀ mem k
+
+abbrev μ-loop : tie.MeasureT-loop
+μ-loop table s mem₀ p t end k₀ mem k = end - k
+
+loop-holds : tie.Need-loop-holds Inv-loop μ-loop
+loop-holds c = uses-start-of _ _ _ _ _ (c .before .before .pre .0) (c .before .before .pre .1 .2)
+
+load-use-requires : tie.Need-load-use-requires Inv-loop μ-loop
+load-use-requires c κs = use-asks-small _ _ _ _ _ (c .before .before .before .before .before .pre .0) (c .before .before .before .before .before .pre .1 .2) _ _ (c .before .before .loop .inv) (c .before .loop-test .taken)
+
+wide-requires : tie.Need-wide-requires Inv-loop μ-loop
+wide-requires c κs = search needs
+
+wide-requires-2 : tie.Need-wide-requires-2 Inv-loop μ-loop
+wide-requires-2 c κs = search needs
+
+visit-requires : tie.Need-visit-requires Inv-loop μ-loop
+visit-requires c κs = asks-wide _ _ _ (c .before .wide .ensures) (c .wide2 .ensures) (visit-asks _ _ _ _ _ (c .before .before .before .before .before .before .before .before .before .pre .0) (c .before .before .before .before .before .before .before .before .before .pre .1 .2) _ _ (c .before .before .before .before .before .before .loop .inv) (c .before .before .before .before .before .loop-test .taken) _ (c .before .before .before .load-use .ensures))
+
+add-k : tie.Need-add-k Inv-loop μ-loop
+add-k c = search needs
+
+loop-less : tie.Need-loop-less Inv-loop μ-loop
+loop-less c = search needs
+
+loop-again : tie.Need-loop-again Inv-loop μ-loop
+loop-again c = uses-next-of _ _ _ _ _ (c .before .before .before .before .before .before .before .before .before .before .before .before .pre .0) (c .before .before .before .before .before .before .before .before .before .before .before .before .pre .1 .2) _ _ (c .before .before .before .before .before .before .before .before .before .loop .inv) (c .before .before .before .before .before .before .before .before .loop-test .taken) _ (c .before .before .before .before .before .before .load-use .ensures) _ (visit-wide _ _ _ (c .before .before .before .before .wide .ensures) (c .before .before .before .wide2 .ensures) _ (c .before .before .visit .ensures))
+
+same-length : tie.Need-same-length Inv-loop μ-loop
+same-length c = search needs
+
+returns : tie.Need-returns Inv-loop μ-loop
+returns c = uses-end-of _ _ _ _ _ (c .before .before .before .before .pre .0) (c .before .before .before .before .pre .1 .2) _ _ (c .before .loop .inv) (c .loop-test .left)
+
+pub visit-uses-spec : {M : Type 1} → statement M
+visit-uses-spec =
+    tie.close
+    (tie.spec
+    Inv-loop
+    μ-loop
+    loop-holds
+    load-use-requires
+    wide-requires
+    wide-requires-2
+    visit-requires
+    add-k
+    loop-less
+    loop-again
+    same-length
+    returns)

@@ -1,0 +1,99 @@
+-- `memory::visit::walk` meets its contract. The loop's invariant is `Walking` of proofs/Walks.antt: of the rule's own pairs those below `i` are tagged. Assumes nothing.
+use Rattle.table.proofs.Pairs.{strong-read, weak-read}
+use Rattle.memory.proofs.visit.Walks.{Walking, opposite-is, turn-asks, turn-next, walk-end, walk-start}
+use native.Mathlib.Omega.{arith}
+use Prim.Native.Nat.{_-_}
+use mathlib.Core.Path.{_∙_, sym}
+use Rattle.table.specs.Format.{theoryIn}
+use borrow.Author.Needs.{needs}
+use Rattle.memory.proofs.visit.walk.Statement.{statement}
+use Rattle.memory.proofs.visit.walk.Tie as tie
+
+abbrev Inv-loop : tie.InvT-loop
+Inv-loop table s mem₀ r t n q i₀ mem i = Walking (theoryIn table s) t r mem₀ mem i
+
+abbrev μ-loop : tie.MeasureT-loop
+μ-loop table s mem₀ r t n q i₀ mem i = n - i
+
+wide-requires : tie.Need-wide-requires Inv-loop μ-loop
+wide-requires c κs = search needs
+
+load-requires : tie.Need-load-requires Inv-loop μ-loop
+load-requires c κs = search needs
+
+complement-requires : tie.Need-complement-requires Inv-loop μ-loop
+complement-requires c κs = search needs
+
+wide-requires-2 : tie.Need-wide-requires-2 Inv-loop μ-loop
+wide-requires-2 c κs = search needs
+
+load-requires-2 : tie.Need-load-requires-2 Inv-loop μ-loop
+load-requires-2 c κs = search needs
+
+wide-requires-3 : tie.Need-wide-requires-3 Inv-loop μ-loop
+wide-requires-3 c κs = search needs
+
+loop-holds : tie.Need-loop-holds Inv-loop μ-loop
+loop-holds c = walk-start _ _ _ _ _ (c .before .before .before .before .before .before .before .before .before .before .pre .1 .0 .0) (c .before .before .before .before .before .before .before .before .before .before .pre .1 .0 .1) (c .wide3 .ensures ∙ c .before .load2 .ensures)
+
+read-pair-requires : tie.Need-read-pair-requires Inv-loop μ-loop
+read-pair-requires c κs = search needs
+
+wide-requires-4 : tie.Need-wide-requires-4 Inv-loop μ-loop
+wide-requires-4 c κs = search needs
+
+same-length : tie.Need-same-length Inv-loop μ-loop
+same-length c = search needs
+
+returns : tie.Need-returns Inv-loop μ-loop
+unfolding theoryIn
+returns c = (c .before .before .before .before .loop .inv .unchanged, walk-end _ (c .before .before .before .before .before .before .before .before .before .before .before .before .before .before .before .pre .0 .0) _ _ _ _ _ (c .before .before .before .before .loop .inv) (λ _ e. c .if1 .taken (c .before .wide4 .ensures ∙ strong-read _ _ _ _ (c .before .before .read-pair .ensures) ∙ e)))
+
+wide-requires-5 : tie.Need-wide-requires-5 Inv-loop μ-loop
+wide-requires-5 c κs = search needs
+
+notify-requires : tie.Need-notify-requires Inv-loop μ-loop
+unfolding theoryIn
+notify-requires c κs = turn-asks _ (c .before .before .before .before .before .before .before .before .before .before .before .before .before .before .before .before .before .pre .0 .0) _ _ _ _ _ (c .before .before .before .before .before .before .loop .inv) _ (c .before .before .before .before .before .before .before .before .before .before .before .before .before .before .before .before .before .pre .0 .2) (c .before .before .before .before .before .before .before .before .before .before .before .before .before .before .before .before .before .pre .0 .3) (omega (arith, c .before .before .before .before .before .loop-test .taken, c .before .before .before .before .before .before .before .before .before .before .before .before .before .before .wide .ensures)) (sym (strong-read _ _ _ _ (c .before .before .before .before .read-pair .ensures)) ∙ sym (c .before .before .before .wide4 .ensures) ∙ c .before .before .if1 .left) (c .wide5 .ensures ∙ weak-read _ _ _ _ (c .before .before .before .before .read-pair .ensures))
+
+add-i : tie.Need-add-i Inv-loop μ-loop
+add-i c = search needs
+
+loop-less : tie.Need-loop-less Inv-loop μ-loop
+loop-less c = search needs
+
+loop-again : tie.Need-loop-again Inv-loop μ-loop
+unfolding theoryIn
+loop-again c = turn-next _ (c .before .before .before .before .before .before .before .before .before .before .before .before .before .before .before .before .before .before .before .before .pre .0 .0) _ _ _ _ _ (c .before .before .before .before .before .before .before .before .before .loop .inv) _ (c .before .before .before .before .before .before .before .before .before .before .before .before .before .before .before .before .before .before .before .before .pre .0 .2) (c .before .before .before .before .before .before .before .before .before .before .before .before .before .before .before .before .before .before .before .before .pre .0 .3) (omega (arith, c .before .before .before .before .before .before .before .before .loop-test .taken, c .before .before .before .before .before .before .before .before .before .before .before .before .before .before .before .before .before .wide .ensures)) (sym (strong-read _ _ _ _ (c .before .before .before .before .before .before .before .read-pair .ensures)) ∙ sym (c .before .before .before .before .before .before .wide4 .ensures) ∙ c .before .before .before .before .before .if1 .left) (c .before .before .before .wide5 .ensures ∙ weak-read _ _ _ _ (c .before .before .before .before .before .before .before .read-pair .ensures)) (c .before .before .before .before .before .before .before .before .before .before .before .before .before .before .before .before .before .before .before .before .pre .0 .4) _ (opposite-is _ _ _ _ _ _ _ _ (c .before .before .before .before .before .before .before .before .before .before .before .before .before .before .before .before .before .before .before .before .pre .1 .0 .1) (c .before .before .before .before .before .before .before .before .before .before .before .before .before .before .before .before .before .before .before .before .pre .0 .1) (c .before .before .before .before .before .before .before .before .before .before .before .before .before .before .before .load .ensures) (c .before .before .before .before .before .before .before .before .before .before .before .before .before .before .complement .ensures) (c .before .before .before .before .before .before .before .before .before .before .before .before .before .wide2 .ensures)) _ (c .before .before .notify .ensures)
+
+same-length-2 : tie.Need-same-length-2 Inv-loop μ-loop
+same-length-2 c = search needs
+
+returns-2 : tie.Need-returns-2 Inv-loop μ-loop
+unfolding theoryIn
+returns-2 c = (c .before .loop .inv .unchanged, walk-end _ (c .before .before .before .before .before .before .before .before .before .before .before .before .pre .0 .0) _ _ _ _ _ (c .before .loop .inv) (λ h _. absurd (omega (arith, c .loop-test .left, c .before .before .before .before .before .before .before .before .before .wide .ensures))))
+
+pub walk-spec : {M : Type 1} → statement M
+walk-spec =
+    tie.close
+    (tie.spec
+    Inv-loop
+    μ-loop
+    wide-requires
+    load-requires
+    complement-requires
+    wide-requires-2
+    load-requires-2
+    wide-requires-3
+    loop-holds
+    read-pair-requires
+    wide-requires-4
+    same-length
+    returns
+    wide-requires-5
+    notify-requires
+    add-i
+    loop-less
+    loop-again
+    same-length-2
+    returns-2)

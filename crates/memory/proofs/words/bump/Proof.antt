@@ -1,0 +1,26 @@
+-- `memory::words::bump` meets its contract. Assumes nothing.
+use mathlib.Core.Path.{_∙_, ap}
+use Prim.Native.Nat.{_+_, _*_}
+use lib.ListN.{set}
+use borrow.Author.Needs.{needs}
+use Rattle.memory.proofs.words.bump.Statement.{statement}
+use Rattle.memory.proofs.words.bump.Tie as tie
+use Rattle.memory.specs.Layout.{fieldSize}
+
+load-requires : tie.Need-load-requires
+load-requires c κs = search needs
+
+add-store : tie.Need-add-store
+add-store c = search needs
+
+store-requires : tie.Need-store-requires
+store-requires c κs = search needs
+
+same-length : tie.Need-same-length
+same-length c = search needs
+
+returns : tie.Need-returns
+returns c = c .before .before .store .ensures ∙ ap (λ n. set (c .before .before .before .before .before .before .before .args .mem .now) (fieldSize * c .before .before .before .before .before .before .before .args .field + c .before .before .before .before .before .before .before .args .i) (n + 1)) (c .before .before .before .before .load .ensures)
+
+pub bump-spec : {M : Type 1} → statement M
+bump-spec = tie.close (tie.spec load-requires add-store store-requires same-length returns)

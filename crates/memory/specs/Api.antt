@@ -1,0 +1,56 @@
+-- What the working memory promises to the run above it.
+use Prim.Native.Nat.{ℕ, _+_, _<_}
+use mathlib.Core.Path.{_≡_}
+use mathlib.Core.Bool.{Bool, false}
+use mathlib.Core.List.{List}
+use lib.Dec.{eqb}
+use lib.ListN.{length, drop}
+use Rattle.logic.specs.Tests.{_or_, total}
+use Rattle.logic.specs.Theory.{Theory}
+use Rattle.memory.specs.Layout.{tagCount, memorySize}
+use Rattle.memory.specs.Fields.{mark, has, sizeF}
+use Rattle.memory.specs.Memory.{view, heldOf, writtenOf, users, Invariant, Ready}
+
+-- a test with one number more
+abbrev pub adds : (ℕ → Bool) → ℕ → ℕ → Bool
+adds h x y = h y or eqb y x
+
+-- the uses of literal p stand from the first to the end: after those of the literals below it, one for each rule that uses it
+pub record UsesAt (d : Theory) (p first end : ℕ) : Type 0 where
+  pub begin : first ≡ total p (λ q. length (users d q))
+  pub finish : end ≡ first + length (users d p)
+
+-- the words past the memory, and their number, stay
+pub record Kept (m n : List ℕ) : Type 0 where
+  pub size : length n ≡ length m
+  pub rest : drop memorySize n ≡ drop memorySize m
+
+-- one antecedent more of rule r has tag t
+pub record Visited (d : Theory) (t r : ℕ) (m n : List ℕ) : Type 0 where
+  pub invariant : Invariant d n
+  pub more : view n (has t) r ≡ view m (has t) r + 1
+  pub others : (u i : ℕ) → u < tagCount → (u ≡ t → i ≡ r → ⊥) → view n (has u) i ≡ view m (has u) i
+  pub marks : (u i : ℕ) → u < tagCount → view n (mark u) i ≡ view m (mark u) i
+  pub sizes : (i : ℕ) → view n sizeF i ≡ view m sizeF i
+  pub kept : Kept m n
+
+-- the memory is ready for a theory, and nothing is processed or written
+pub record Prepared (d : Theory) (m n : List ℕ) : Type 0 where
+  pub ready : Ready d n
+  pub none : (x : ℕ) → heldOf n x ≡ false
+  pub nothing : (x : ℕ) → writtenOf n x ≡ false
+  pub kept : Kept m n
+
+-- conclusion x was written
+pub record Wrote (d : Theory) (x : ℕ) (m n : List ℕ) : Type 0 where
+  pub ready : Ready d n
+  pub same : (y : ℕ) → heldOf n y ≡ heldOf m y
+  pub written : (y : ℕ) → writtenOf n y ≡ adds (writtenOf m) x y
+  pub kept : Kept m n
+
+-- conclusion x was processed
+pub record Added (d : Theory) (x : ℕ) (m n : List ℕ) : Type 0 where
+  pub ready : Ready d n
+  pub held : (y : ℕ) → heldOf n y ≡ adds (heldOf m) x y
+  pub written : (y : ℕ) → writtenOf n y ≡ writtenOf m y
+  pub kept : Kept m n

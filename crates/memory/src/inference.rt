@@ -1,0 +1,174 @@
+// What follows from what is processed, and what a conclusion costs.
+ghost use Prim.Native.Nat.{_*_, _/_, _≤_, _<_};
+ghost use mathlib.Core.Path.{_≡_};
+ghost use mathlib.Core.Bool.{false};
+ghost use lib.ListN.{length};
+ghost use Rattle.logic.specs.Tests.{_and_, _or_, weigh};
+ghost use Rattle.logic.specs.Theory.{complement};
+ghost use Rattle.logic.specs.Plain.{plainSystem};
+ghost use Rattle.table.specs.declared.judge.Judgement.the-variants.{Accepted};
+ghost use Rattle.table.specs.Format.{theoryIn};
+ghost use Rattle.table.specs.Refusals.{judgementOf};
+ghost use Rattle.memory.specs.Layout.{tagCount, fieldSize, memorySize};
+ghost use Rattle.memory.specs.Memory.{view, heldOf, Ready};
+ghost use Rattle.memory.specs.Api.{adds, UsesAt};
+ghost use Rattle.memory.specs.Deciding.{processed, definitelyBy, notDefinitelyBy, defeasiblyBy, notDefeasiblyBy, decidedBy, chargeBy};
+use crate::fields::COUNTERED;
+use crate::fields::FACT;
+use crate::fields::FIRING;
+use crate::fields::HAS_PROVED;
+use crate::fields::HAS_REFUTED;
+use crate::fields::HEADED;
+use crate::fields::KIND;
+use crate::fields::NAMING;
+use crate::fields::OUT;
+use crate::fields::PROVED;
+use crate::fields::REFUTED;
+use crate::fields::SIZE;
+use crate::fields::STRICT;
+use crate::fields::SUPPORT;
+use crate::fields::UNOPPOSED;
+use crate::layout::TAGS;
+use crate::uses::Uses;
+use crate::words::load;
+use crate::words::load_use;
+use table::format::Literal;
+use table::format::Sizes;
+use values::both;
+use values::either;
+
+// Whether tag t of the literal at an index is processed.
+fn is_processed(mem: &[u16], i: usize, t: usize) -> bool
+    requires { ⌜ (i < fieldSize) × (t < tagCount) × (memorySize ≤ length (now mem)) ⌝ }
+    ensures { λ r. ⌜ r ≡ processed (view (now (mem .entry))) i t ⌝ }
+{
+    load(mem, t, i) == 2
+}
+
+// +Δ
+fn definitely(mem: &[u16], i: usize) -> bool
+    requires { ⌜ (i < fieldSize) × (memorySize ≤ length (now mem)) ⌝ }
+    ensures { λ r. ⌜ r ≡ definitelyBy (view (now (mem .entry))) i ⌝ }
+{
+    either(0 < load(mem, FACT, i), 0 < load(mem, PROVED, i))
+}
+
+// −Δ
+fn not_definitely(mem: &[u16], i: usize) -> bool
+    requires { ⌜ (i < fieldSize) × (memorySize ≤ length (now mem)) ⌝ }
+    ensures { λ r. ⌜ r ≡ notDefinitelyBy (view (now (mem .entry))) i ⌝ }
+{
+    let out = load(mem, REFUTED, i) == load(mem, STRICT, i);
+    both(load(mem, FACT, i) == 0, out)
+}
+
+// The complement of literal q, as an index.
+fn other(q: u16) -> usize
+    ensures { λ r. ⌜ r ≡ complement q ⌝ }
+{
+    let n = Literal(q).complement();
+    n.0 as usize
+}
+
+// +∂
+fn defeasibly(mem: &[u16], q: u16) -> bool
+    requires { ⌜ (q < fieldSize) × (memorySize ≤ length (now mem)) ⌝ }
+    ensures { λ r. ⌜ r ≡ defeasiblyBy (view (now (mem .entry))) q ⌝ }
+{
+    let i = q as usize;
+    if is_processed(mem, i, 0) {
+        return true;
+    }
+    if load(mem, FIRING, i) == 0 {
+        return false;
+    }
+    let n = other(q);
+    if !is_processed(mem, n, 1) {
+        return false;
+    }
+    load(mem, COUNTERED, n) == load(mem, HEADED, n)
+}
+
+// −∂
+fn not_defeasibly(mem: &[u16], q: u16) -> bool
+    requires { ⌜ (q < fieldSize) × (memorySize ≤ length (now mem)) ⌝ }
+    ensures { λ r. ⌜ r ≡ notDefeasiblyBy (view (now (mem .entry))) q ⌝ }
+{
+    let i = q as usize;
+    if !is_processed(mem, i, 1) {
+        return false;
+    }
+    if load(mem, OUT, i) == load(mem, SUPPORT, i) {
+        return true;
+    }
+    let n = other(q);
+    if is_processed(mem, n, 0) {
+        return true;
+    }
+    0 < load(mem, UNOPPOSED, n)
+}
+
+// Whether a conclusion follows: the remainder by four picks the inference rule.
+pub fn follows(table: &[u8], s: Sizes, mem: &[u16], x: u16) -> bool
+    requires { ⌜ (judgementOf (now table) ≡ Accepted s) × Ready (theoryIn (now table) s) (now mem) × (x < tagCount * (2 * s .atoms)) ⌝ }
+    ensures { λ r. ⌜ r ≡ plainSystem (theoryIn (now (table .entry)) s) .infers (heldOf (now (mem .entry))) x ⌝ }
+{
+    let q = x / TAGS;
+    let t = x % TAGS;
+    match t {
+        0 => definitely(mem, q as usize),
+        1 => not_definitely(mem, q as usize),
+        2 => defeasibly(mem, q),
+        _ => not_defeasibly(mem, q),
+    }
+}
+
+// Whether one antecedent more of rule r with tag t, 2 or 3, decides the rule.
+fn decides(mem: &[u16], r: usize, t: u16) -> bool
+    requires { ⌜ (r < fieldSize) × (memorySize ≤ length (now mem)) ⌝ }
+    ensures { λ x. ⌜ x ≡ decidedBy (view (now (mem .entry))) t r ⌝ }
+{
+    if load(mem, HAS_REFUTED, r) != 0 {
+        return false;
+    }
+    let proved = load(mem, HAS_PROVED, r) as u32;
+    let size = load(mem, SIZE, r) as u32;
+    if t == 3 {
+        return proved != size;
+    }
+    proved + 1 == size
+}
+
+fn weigh(test: bool, n: u16) -> u32
+    ensures { λ r. ⌜ (r ≡ weigh test n) × (r ≤ 65535) ⌝ }
+{
+    if test { n as u32 } else { 0 }
+}
+
+// What rule r, which uses a literal, adds to the cost of its tag t.
+fn charge(mem: &[u16], r: usize, t: u16) -> u32
+    requires { ⌜ (r < fieldSize) × (memorySize ≤ length (now mem)) ⌝ }
+    ensures { λ x. ⌜ (x ≡ chargeBy (view (now (mem .entry))) t r) × (x ≤ 65536) ⌝ }
+{
+    if t < 2 {
+        weigh(load(mem, KIND, r) == 0, 1)
+    } else {
+        1 + weigh(decides(mem, r, t), load(mem, NAMING, r))
+    }
+}
+
+// The cost of processing a conclusion that is not processed.
+pub fn cost(table: &[u8], s: Sizes, mem: &[u16], x: u16, uses: Uses) -> u32
+    requires { ⌜ (judgementOf (now table) ≡ Accepted s) × Ready (theoryIn (now table) s) (now mem) × (x < tagCount * (2 * s .atoms)) × (heldOf (now mem) x ≡ false) × UsesAt (theoryIn (now table) s) (x / tagCount) (uses .first) (uses .end) ⌝ }
+    ensures { λ r. ⌜ r ≡ plainSystem (theoryIn (now (table .entry)) s) .cost (heldOf (now (mem .entry))) (adds (heldOf (now (mem .entry))) x) x ⌝ }
+{
+    let t = x % TAGS;
+    let mut sum: u32 = 1;
+    let end = uses.end;
+    let mut k = uses.first;
+    while k < end {
+        sum += charge(mem, load_use(mem, k) as usize, t);
+        k += 1;
+    }
+    sum
+}

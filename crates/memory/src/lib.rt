@@ -1,0 +1,12 @@
+// The working memory (specs/Memory.antt): what is processed and written, kept in words with the index of a table. It is internal: its
+// functions require what their callers have shown, and its callers look at contracts and laws alone, never at the words.
+mod counting;
+mod fields;
+pub mod inference;
+pub mod layout;
+pub mod marks;
+pub mod prepare;
+mod sorting;
+pub mod uses;
+pub mod visit;
+mod words;

@@ -1,0 +1,209 @@
+// A conclusion is processed: every count that changes grows by one at a time, and then the mark is set.
+ghost use Prim.Native.Nat.{_+_, _*_, _/_, _≤_, _<_};
+ghost use mathlib.Core.Path.{_≡_};
+ghost use mathlib.Core.Bool.{true, false};
+ghost use lib.Dec.{T};
+ghost use lib.ListN.{length};
+ghost use Rattle.logic.specs.Tests.{_and_, weigh};
+ghost use Rattle.logic.specs.Theory.{canSupport, kindOf};
+ghost use Rattle.table.specs.declared.judge.Judgement.the-variants.{Accepted};
+ghost use Rattle.table.specs.Format.{theoryIn};
+ghost use Rattle.table.specs.Refusals.{judgementOf};
+ghost use Rattle.memory.specs.Layout.{tagCount, fieldCount, fieldSize, memorySize};
+ghost use Rattle.memory.specs.Fields.{has, sizeF, headF, rivalsBy, byRival};
+ghost use Rattle.memory.specs.Memory.{view, heldOf, writtenOf, Invariant, Ready};
+ghost use Rattle.memory.specs.Api.{UsesAt, Visited, Added};
+ghost use Rattle.memory.specs.Visits.{WellFormed, Raised, threshold, justReached, reached, decidedFor, notifies, notifiedBelow, isFree, justReachedByRival, Open, Unchanged, Decided, Notified, Spread};
+use crate::fields::BEATEN;
+use crate::fields::BY_ITSELF;
+use crate::fields::BY_RIVAL;
+use crate::fields::FIRST;
+use crate::fields::HAS;
+use crate::fields::HAS_PROVED;
+use crate::fields::HAS_REFUTED;
+use crate::fields::HEAD;
+use crate::fields::KIND;
+use crate::fields::LOST;
+use crate::fields::RIVALS;
+use crate::fields::RIVALS_BY;
+use crate::fields::RULES_BY;
+use crate::fields::SIZE;
+use crate::layout::TAGS;
+use crate::uses::Uses;
+use crate::words::bump;
+use crate::words::load;
+use crate::words::load_use;
+use crate::words::store;
+use table::format::Literal;
+use table::format::Sizes;
+use table::format::read_pair;
+use values::both;
+use values::wide;
+
+// One more, if the test says so.
+fn bump_if(mem: &mut [u16], field: usize, i: usize, test: bool)
+    requires { ⌜ (field < fieldCount) × (i < fieldSize) × (memorySize ≤ length (now mem)) × (view (now mem) field i < 65535) ⌝ }
+    ensures { λ _. ⌜ Raised field i (weigh test 1) (now (mem .entry)) (now (mem .exit)) ⌝ }
+{
+    if test {
+        bump(mem, field, i);
+    }
+}
+
+// The number of antecedents with tag t at which a rule is decided.
+fn threshold(t: usize, size: u16) -> u16
+    ensures { λ r. ⌜ r ≡ threshold t size ⌝ }
+{
+    if t % 2 == 0 { size } else { 1 }
+}
+
+// Whether every rival of rule r is out (t = 2), or none fires (t = 3).
+fn is_free(mem: &[u16], r: usize, t: usize) -> bool
+    requires { ⌜ (r < fieldSize) × (memorySize ≤ length (now mem)) ⌝ }
+    ensures { λ x. ⌜ x ≡ isFree (view (now (mem .entry))) t r ⌝ }
+{
+    if t == 2 {
+        load(mem, LOST, r) == load(mem, RIVALS, r)
+    } else {
+        load(mem, BEATEN, r) == 0
+    }
+}
+
+// Whether the rival that rule r was just tagged of has made it countered (t = 2), or unopposed (t = 3).
+fn reached_by_rival(mem: &[u16], r: usize, t: usize) -> bool
+    requires { ⌜ (r < fieldSize) × (memorySize ≤ length (now mem)) ⌝ }
+    ensures { λ x. ⌜ x ≡ justReachedByRival (view (now (mem .entry))) t r ⌝ }
+{
+    if t == 2 {
+        both(load(mem, BEATEN, r) == 1, load(mem, HAS_REFUTED, r) == 0)
+    } else {
+        both(
+            load(mem, LOST, r) == load(mem, RIVALS, r),
+            load(mem, HAS_PROVED, r) == load(mem, SIZE, r),
+        )
+    }
+}
+
+// Rule x is tagged that a rule over it fires (t = 2), or is out (t = 3). That rule is a rival if q, the complement of its head, is
+// the head of x.
+fn notify(mem: &mut [u16], q: usize, x: usize, t: usize)
+    requires { ⌜ (x < fieldSize) × (2 ≤ t) × (t < tagCount) × (memorySize ≤ length (now mem)) ⌝ }
+    requires { ⌜ (view (now mem) (rivalsBy t) x < 65535) × (view (now mem) headF x < fieldSize) × (view (now mem) (byRival t) (view (now mem) headF x) < 65535) ⌝ }
+    ensures { λ _. ⌜ Notified q x t (now (mem .entry)) (now (mem .exit)) ⌝ }
+{
+    let head = wide(load(mem, HEAD, x));
+    let rival = head == q;
+    bump_if(mem, RIVALS_BY + t, x, rival);
+    let turns = reached_by_rival(mem, x, t);
+    bump_if(mem, BY_RIVAL + t, head, both(rival, turns));
+}
+
+// Every rule that rule r is over is tagged.
+fn walk(table: &[u8], s: Sizes, mem: &mut [u16], r: usize, t: usize)
+    requires { ⌜ WellFormed (theoryIn (now table) s) × (r < s .rules) × (2 ≤ t) × (t < tagCount) × T (canSupport (kindOf (theoryIn (now table) s) r)) ⌝ }
+    requires { ⌜ T (reached (view (now mem)) t r) × Open (theoryIn (now table) s) (now mem) (decidedFor (view (now mem))) (notifiedBelow (theoryIn (now table) s) (view (now mem)) t r 0) ⌝ }
+    requires { ⌜ (r < fieldSize) × (memorySize ≤ length (now mem)) ⌝ }
+    ensures { λ _. ⌜ Unchanged (now (mem .entry)) (now (mem .exit)) × Open (theoryIn (now (table .entry)) s) (now (mem .exit)) (decidedFor (view (now (mem .exit)))) (notifies (theoryIn (now (table .entry)) s) (view (now (mem .exit)))) ⌝ }
+{
+    let n = wide(s.pairs);
+    let head = Literal(load(mem, HEAD, r));
+    let opposite = head.complement();
+    let q = wide(opposite.0);
+    let mut i = wide(load(mem, FIRST, r));
+    while i < n {
+        let p = read_pair(table, s, i);
+        if wide(p.stronger) != r {
+            return;
+        }
+        notify(mem, q, wide(p.weaker), t);
+        i += 1;
+    }
+}
+
+// One antecedent more of rule r has tag t. Whether it decides the rule: all antecedents have an even tag now, or one has an odd tag.
+pub fn reaches(mem: &mut [u16], r: usize, t: usize) -> bool
+    requires { ⌜ (r < fieldSize) × (t < tagCount) × (memorySize ≤ length (now mem)) × (view (now mem) (has t) r < view (now mem) sizeF r) ⌝ }
+    ensures { λ x. ⌜ Raised (has t) r 1 (now (mem .entry)) (now (mem .exit)) × (x ≡ justReached (view (now (mem .exit))) t r) ⌝ }
+{
+    let size = load(mem, SIZE, r);
+    bump(mem, HAS + t, r);
+    load(mem, HAS + t, r) == threshold(t, size)
+}
+
+// A visit with tag +Δ or −Δ.
+pub fn visit_definite(table: &[u8], s: Sizes, mem: &mut [u16], r: usize, t: usize)
+    requires { ⌜ WellFormed (theoryIn (now table) s) × Invariant (theoryIn (now table) s) (now mem) × (r < s .rules) × (t < 2) × (view (now mem) (has t) r < view (now mem) sizeF r) ⌝ }
+    requires { ⌜ (r < fieldSize) × (memorySize ≤ length (now mem)) ⌝ }
+    ensures { λ _. ⌜ Visited (theoryIn (now (table .entry)) s) t r (now (mem .entry)) (now (mem .exit)) ⌝ }
+{
+    if !reaches(mem, r, t) {
+        return;
+    }
+    let head = wide(load(mem, HEAD, r));
+    let strict = load(mem, KIND, r) == 0;
+    bump_if(mem, RULES_BY + t, head, strict);
+}
+
+// A visit with tag +∂ or −∂ that has decided rule r: the rule is counted, and a supporter notifies the rules that it is over. Of two calls
+// of `walk` the compiler makes a function of it, and what most visits do stays small.
+pub fn decide(table: &[u8], s: Sizes, mem: &mut [u16], r: usize, t: usize)
+    requires { ⌜ WellFormed (theoryIn (now table) s) × Decided (theoryIn (now table) s) t r (now mem) × (r < s .rules) × (2 ≤ t) × (t < tagCount) ⌝ }
+    requires { ⌜ (r < fieldSize) × (memorySize ≤ length (now mem)) ⌝ }
+    ensures { λ _. ⌜ Unchanged (now (mem .entry)) (now (mem .exit)) × Invariant (theoryIn (now (table .entry)) s) (now (mem .exit)) ⌝ }
+{
+    let head = wide(load(mem, HEAD, r));
+    let supports = load(mem, KIND, r) < 2;
+    let free = is_free(mem, r, t);
+    bump_if(mem, BY_ITSELF - t, head, free);
+    bump_if(mem, RULES_BY + t, head, supports);
+    if !supports {
+        return;
+    }
+    if t == 2 {
+        walk(table, s, mem, r, 2);
+    } else {
+        walk(table, s, mem, r, 3);
+    }
+}
+
+// One antecedent more of rule r has tag t.
+fn visit(table: &[u8], s: Sizes, mem: &mut [u16], r: usize, t: usize)
+    requires { ⌜ (judgementOf (now table) ≡ Accepted s) × Invariant (theoryIn (now table) s) (now mem) × (r < s .rules) × (t < tagCount) × (view (now mem) (has t) r < view (now mem) sizeF r) ⌝ }
+    ensures { λ _. ⌜ Visited (theoryIn (now (table .entry)) s) t r (now (mem .entry)) (now (mem .exit)) ⌝ }
+{
+    if t < 2 {
+        visit_definite(table, s, mem, r, t);
+        return;
+    }
+    if !reaches(mem, r, t) {
+        return;
+    }
+    decide(table, s, mem, r, t);
+}
+
+// Every rule with literal p in its body is visited with tag t.
+fn visit_uses(table: &[u8], s: Sizes, mem: &mut [u16], p: u16, t: u16, uses: Uses)
+    requires { ⌜ (judgementOf (now table) ≡ Accepted s) × Ready (theoryIn (now table) s) (now mem) × (p < 2 * s .atoms) × (t < tagCount) × (heldOf (now mem) (tagCount * p + t) ≡ false) ⌝ }
+    requires { ⌜ (p < fieldSize) × (memorySize ≤ length (now mem)) × UsesAt (theoryIn (now table) s) p (uses .first) (uses .end) ⌝ }
+    ensures { λ _. ⌜ Spread (theoryIn (now (table .entry)) s) p t (now (mem .entry)) (now (mem .exit)) ⌝ }
+{
+    let end = uses.end;
+    let mut k = uses.first;
+    while k < end {
+        let r = load_use(mem, k);
+        visit(table, s, mem, wide(r), wide(t));
+        k += 1;
+    }
+}
+
+// Conclusion x is processed.
+pub fn add(table: &[u8], s: Sizes, mem: &mut [u16], x: u16, uses: Uses)
+    requires { ⌜ (judgementOf (now table) ≡ Accepted s) × Ready (theoryIn (now table) s) (now mem) × (x < tagCount * (2 * s .atoms)) × (writtenOf (now mem) x ≡ true) × (heldOf (now mem) x ≡ false) ⌝ }
+    requires { ⌜ UsesAt (theoryIn (now table) s) (x / tagCount) (uses .first) (uses .end) ⌝ }
+    ensures { λ _. ⌜ Added (theoryIn (now (table .entry)) s) x (now (mem .entry)) (now (mem .exit)) ⌝ }
+{
+    let p = x / TAGS;
+    let t = x % TAGS;
+    visit_uses(table, s, mem, p, t, uses);
+    store(mem, wide(t), wide(p), 2);
+}

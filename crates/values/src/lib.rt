@@ -1,0 +1,22 @@
+// Small functions by value. A test or a cast that goes through one leaves one fact to its caller, and no branch.
+ghost use mathlib.Core.Path.{_≡_};
+ghost use Rattle.logic.specs.Tests.{_and_, _or_};
+
+pub fn both(a: bool, b: bool) -> bool
+    ensures { λ r. ⌜ r ≡ (a and b) ⌝ }
+{
+    if a { b } else { false }
+}
+
+pub fn either(a: bool, b: bool) -> bool
+    ensures { λ r. ⌜ r ≡ (a or b) ⌝ }
+{
+    if a { true } else { b }
+}
+
+// A word as an index.
+pub fn wide(n: u16) -> usize
+    ensures { λ r. ⌜ r ≡ n ⌝ }
+{
+    n as usize
+}
