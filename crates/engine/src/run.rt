@@ -8,15 +8,16 @@ ghost use Rattle.logic.specs.Plain.{plainSystem};
 ghost use Rattle.table.specs.declared.judge.Judgement.the-variants.{Accepted};
 ghost use Rattle.table.specs.Format.{theoryIn};
 ghost use Rattle.table.specs.Refusals.{judgementOf};
+ghost use Rattle.engine.specs.declared.answer.Answer.the-variants.{Refused};
 ghost use Rattle.engine.specs.Answers.{Ran};
 ghost use Rattle.engine.specs.Working.{Worked};
 use crate::answer::Answer;
 use crate::answer::Counts;
+use crate::work::work;
+use crate::work::write_initial;
 use memory::layout::MEMORY_SIZE;
 use memory::prepare::clear;
 use memory::prepare::prepare;
-use crate::work::work;
-use crate::work::write_initial;
 use table::format::Sizes;
 use table::judge::Judgement;
 use table::judge::Refusal;
@@ -28,6 +29,13 @@ fn size_of(s: Sizes) -> u32
     ensures { λ r. ⌜ r ≡ s .atoms + s .facts + s .rules + s .entries + s .pairs ⌝ }
 {
     s.atoms as u32 + s.facts as u32 + s.rules as u32 + s.entries as u32 + s.pairs as u32
+}
+
+// "A refusal returns its number alone and writes nothing."
+fn refuse(why: Refusal, log: &mut [u16], scratch: &mut [u16]) -> Answer
+    ensures { λ r. ⌜ (r ≡ Refused why) × (now (log .exit) ≡ now (log .entry)) × (now (scratch .exit) ≡ now (scratch .entry)) ⌝ }
+{
+    Answer::Refused(why)
 }
 
 // A run whose start is paid.
@@ -53,10 +61,10 @@ fn run_accepted(table: &[u8], s: Sizes, budget: u32, log: &mut [u16], scratch: &
     ensures { λ r. ⌜ Ran (now (table .entry)) budget (now (log .entry)) (now (log .exit)) (now (scratch .entry)) (now (scratch .exit)) r ⌝ }
 {
     if scratch.len() < MEMORY_SIZE {
-        return Answer::Refused(Refusal::ShortScratch);
+        return refuse(Refusal::ShortScratch, log, scratch);
     }
     if log.len() < 4 * (s.atoms as usize) {
-        return Answer::Refused(Refusal::ShortLog);
+        return refuse(Refusal::ShortLog, log, scratch);
     }
     let size = size_of(s);
     if budget < size {
@@ -77,6 +85,6 @@ pub fn run(table: &[u8], budget: u32, log: &mut [u16], scratch: &mut [u16]) -> A
 {
     match judge(table) {
         Judgement::Accepted(s) => run_accepted(table, s, budget, log, scratch),
-        Judgement::Refused(n) => Answer::Refused(n),
+        Judgement::Refused(n) => refuse(n, log, scratch),
     }
 }

@@ -11,13 +11,13 @@ ghost use Rattle.memory.specs.Memory.{heldOf, writtenOf};
 ghost use Rattle.memory.specs.Api.{UsesAt};
 ghost use Rattle.engine.specs.Working.{Logged, Processed};
 ghost use Rattle.engine.specs.Tallies.{Next, Stepped};
+use crate::tries::try_both;
+use crate::tries::try_uses;
 use memory::inference::cost;
 use memory::layout::TAGS;
 use memory::uses::Uses;
 use memory::uses::uses_of;
 use memory::visit::add;
-use crate::tries::try_both;
-use crate::tries::try_uses;
 use table::format::Sizes;
 
 // How many lines were processed, and what was spent.

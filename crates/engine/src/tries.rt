@@ -4,6 +4,7 @@ ghost use mathlib.Core.Path.{_≡_};
 ghost use mathlib.Core.Bool.{false};
 ghost use mathlib.Core.List.{[], _∷_};
 ghost use lib.Dec.{eqb};
+ghost use lib.ListN.{length, set};
 ghost use Rattle.logic.specs.Tests.{_or_, isnt};
 ghost use Rattle.logic.specs.Theory.{complement};
 ghost use Rattle.logic.specs.Reading.{heads, visited, withTags};
@@ -25,7 +26,16 @@ use memory::uses::user_at;
 use table::format::Literal;
 use table::format::Sizes;
 
-// Tag t of literal q, which is not written. The number of lines is returned.
+// A line at the end of the log. The number of lines is returned.
+fn append(log: &mut [u16], lines: u32, x: u16) -> u32
+    requires { ⌜ (lines < length (now log)) × (lines < 65536) ⌝ }
+    ensures { λ r. ⌜ (now (log .exit) ≡ set (now (log .entry)) lines x) × (r ≡ lines + 1) ⌝ }
+{
+    log[lines as usize] = x;
+    lines + 1
+}
+
+// Tag t of literal q, which is not written.
 fn try_open(
     table: &[u8],
     s: Sizes,
@@ -43,8 +53,7 @@ fn try_open(
         return lines;
     }
     write(table, s, mem, x);
-    log[lines as usize] = x;
-    lines + 1
+    append(log, lines, x)
 }
 
 // A tag of a literal and its opposite. Of the two only one is ever written, so nothing is tried once one of them is.

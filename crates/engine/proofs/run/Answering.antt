@@ -82,6 +82,11 @@ module _ (b : List ℕ) (budget : ℕ) where
           demands = demands-of;
         }
 
+    -- as it is answered
+    pub refused-as : {n : Refusal} {a : Answer} {log′ scratch′ : List ℕ} → Ran b budget log log scratch scratch (Refused n)
+        → (a ≡ Refused n) × (log′ ≡ log) × (scratch′ ≡ scratch) → Ran b budget log log′ scratch scratch′ a
+    refused-as r (e, f, g) = coe 1 0 (i. Ran b budget log (f i) scratch (g i) (e i)) r
+
     pub refused-table : (n : Refusal) → judgementOf b ≡ judgement.Refused n → Ran b budget log log scratch scratch (Refused n)
     unfolding withBuffers
     refused-table n e = ran-refused n (ap (λ j. withBuffers j (length scratch) (length log)) e)

@@ -244,6 +244,10 @@ module _ (b : List ℕ) (s : Sizes) (e : judgementOf b ≡ Accepted s) (q t : �
       pub writes-line : (mem′ : List ℕ) → Wrote (theoryIn b s) (tagCount * q + t) mem mem′ → Tried (theoryIn b s) ((tagCount * q + t) ∷ []) mem log n mem′ (set log n (tagCount * q + t)) (n + 1)
       writes-line = writes (theoryIn b s) (proper-in b s e) mem log n (tagCount * q + t) g small-here new proved
 
+-- a line that was appended
+pub tried-appended : {d : Theory} {cs m l m′ l′ k : List ℕ} {n i r : ℕ} → Tried d cs m l n m′ k i → (l′ ≡ k) × (r ≡ i) → Tried d cs m l n m′ l′ r
+tried-appended {d} {cs} {m} {l} {m′} {n = n} f (e, g) = coe 1 0 (j. Tried d cs m l n m′ (e j) (g j)) f
+
 -- The conclusions of two lists of literals, and of one literal.
 pub withTags-append : (n : ℕ) (qs rs : List ℕ) → withTags n (qs ++ rs) ≡ withTags n qs ++ withTags n rs
 unfolding withTags

@@ -2,7 +2,7 @@
 use native.Mathlib.Omega.{arith}
 use borrow.Author.Tests.{not-true, not-false}
 use mathlib.Core.Path.{_∙_}
-use Rattle.engine.proofs.run.Trying.{few, infers-at, room-for, skips-unproved, writes-line}
+use Rattle.engine.proofs.run.Trying.{few, infers-at, room-for, skips-unproved, tried-appended, writes-line}
 use borrow.Author.Needs.{needs}
 use Rattle.engine.proofs.tries.try_open.Statement.{statement}
 use Rattle.engine.proofs.tries.try_open.Tie as tie
@@ -25,14 +25,13 @@ returns c = skips-unproved _ _ (c .before .before .before .before .before .befor
 write-requires : tie.Need-write-requires
 write-requires c κs = ((c .before .before .before .before .before .before .before .pre .3 .ready), few _ _ (c .before .before .before .before .before .before .before .pre .0) .atoms, omega arith, (c .before .before .before .before .before .before .before .pre .4))
 
-mul-log : tie.Need-mul-log
-mul-log c = search needs
-
-slice-write-log : tie.Need-slice-write-log
-slice-write-log c = room-for _ _ (c .before .before .before .before .before .before .before .before .before .before .pre .0) _ _ (c .before .before .before .before .before .before .before .before .before .before .pre .1) (c .before .before .before .before .before .before .before .before .before .before .pre .2) _ _ _ (c .before .before .before .before .before .before .before .before .before .before .pre .3) (c .before .before .before .before .before .before .before .before .before .before .pre .4) _ ((c .before .before .before .before .before .follows .ensures) ∙ infers-at _ _ _ _ (c .before .before .before .before .before .before .before .before .before .before .pre .2)) (not-false _ (c .before .before .before .before .if1 .left)) .0
-
-add-result : tie.Need-add-result
-add-result c = record { fits = omega (arith, room-for _ _ (c .before .before .before .before .before .before .before .before .before .before .pre .0) _ _ (c .before .before .before .before .before .before .before .before .before .before .pre .1) (c .before .before .before .before .before .before .before .before .before .before .pre .2) _ _ _ (c .before .before .before .before .before .before .before .before .before .before .pre .3) (c .before .before .before .before .before .before .before .before .before .before .pre .4) _ ((c .before .before .before .before .before .follows .ensures) ∙ infers-at _ _ _ _ (c .before .before .before .before .before .before .before .before .before .before .pre .2)) (not-false _ (c .before .before .before .before .if1 .left)) .1) }
+append-requires : tie.Need-append-requires
+append-requires c κs =
+    let e = c .before .before .before .before .before in
+    let start = e .before .before .before .before .before .before in
+    let p = start .pre in
+    let r = room-for _ _ (p .0) _ _ (p .1) (p .2) _ _ _ (p .3) (p .4) _ (e .before .follows .ensures ∙ infers-at _ _ _ _ (p .2)) (not-false _ (e .if1 .left)) in
+    (r .0, omega (arith, r .1))
 
 same-length-2 : tie.Need-same-length-2
 same-length-2 c = search needs
@@ -41,7 +40,13 @@ same-length-3 : tie.Need-same-length-3
 same-length-3 c = search needs
 
 returns-2 : tie.Need-returns-2
-returns-2 c = writes-line _ _ (c .before .before .before .before .before .before .before .before .before .before .pre .0) _ _ (c .before .before .before .before .before .before .before .before .before .before .pre .1) (c .before .before .before .before .before .before .before .before .before .before .pre .2) _ _ _ (c .before .before .before .before .before .before .before .before .before .before .pre .3) (c .before .before .before .before .before .before .before .before .before .before .pre .4) _ ((c .before .before .before .before .before .follows .ensures) ∙ infers-at _ _ _ _ (c .before .before .before .before .before .before .before .before .before .before .pre .2)) (not-false _ (c .before .before .before .before .if1 .left)) _ (c .before .before .write .ensures)
+returns-2 c =
+    let e = c .before .before .before .before .before .before .before .before in
+    let start = e .before .before .before .before .before .before in
+    let p = start .pre in
+    tried-appended
+    (writes-line _ _ (p .0) _ _ (p .1) (p .2) _ _ _ (p .3) (p .4) _ (e .before .follows .ensures ∙ infers-at _ _ _ _ (p .2)) (not-false _ (e .if1 .left)) _ (c .before .before .before .before .before .before .write .ensures))
+    (c .before .before .append .ensures)
 
 pub try-open-spec : {M : Type 1} → statement M
 try-open-spec =
@@ -53,9 +58,7 @@ try-open-spec =
     same-length
     returns
     write-requires
-    mul-log
-    slice-write-log
-    add-result
+    append-requires
     same-length-2
     same-length-3
     returns-2)
