@@ -69,9 +69,9 @@ gives r o =
     both (o .finished) (r .finished) and sameList (logOf o) (r .log) and eqb (worked o) (r .worked) and eqb (o .spent) (r .spent)
     and eqb (bound (r .given)) (r .most) and sameList (map numberOf (verdictsOf (r .given) (logOf o))) (map numberOf (r .verdicts))
 
-unfoldable pub right : List Row → Bool
-right [] = true
-right (r ∷ rs) = gives r (run (plainSystem (r .given)) (r .budget)) and right rs
+unfoldable pub allGive : List Row → Bool
+allGive [] = true
+allGive (r ∷ rs) = gives r (run (plainSystem (r .given)) (r .budget)) and allGive rs
 
 unfoldable pub rows : List Row
 rows =
@@ -112,4 +112,4 @@ rows =
 
 -- All rows hold: proofs/Answers.antt computes it.
 unfoldable pub casesHold : Bool
-casesHold = right rows
+casesHold = allGive rows

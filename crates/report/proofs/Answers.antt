@@ -15,8 +15,8 @@ use Rattle.engine.specs.Answers as engine
 use Rattle.engine.specs.Answers.{countsOf, withBuffers, answerTo, logAfter}
 use Rattle.report.specs.Text.{digits, decimal, wordOf}
 use Rattle.report.specs.Sheet.{atomLine, atomLines, countLine, spentLine, runSheet, refusedSheet, sheetBy}
-use Rattle.report.specs.Cases.{bytesOf, row, isFinished, verdictsOf, answers, gives, right, caseOne, rows, caseOneSheet, casesHold}
+use Rattle.report.specs.Cases.{bytesOf, row, isFinished, verdictsOf, answers, gives, allGive, caseOne, rows, caseOneSheet, casesHold}
 
 pub cases-hold : T casesHold
-unfolding _and_ _or_ isnt every some everyOf someOf empty total weigh upto pick isStrict canSupport strictFor supporter attacker superior allHave oneHas follows put grow proceed run visits heads decides withTags systemOf prune cyclic both sameList logic.numberOf word leftIn rightIn kindOf kindMeant bodyIn theoryIn oversize wrongLength badKind outOfRange sectionFrom sectionSize leftFrom rises disorder cycle judged judgementOf engine.numberOf countsOf withBuffers answerTo logAfter digits decimal wordOf atomLine atomLines countLine spentLine runSheet refusedSheet sheetBy bytesOf row isFinished verdictsOf answers gives right caseOne rows caseOneSheet casesHold
+unfolding _and_ _or_ isnt every some everyOf someOf empty total weigh upto pick isStrict canSupport strictFor supporter attacker superior allHave oneHas follows put grow proceed run visits heads decides withTags systemOf prune cyclic both sameList logic.numberOf word leftIn rightIn kindOf kindMeant bodyIn theoryIn oversize wrongLength badKind outOfRange sectionFrom sectionSize leftFrom rises disorder cycle judged judgementOf engine.numberOf countsOf withBuffers answerTo logAfter digits decimal wordOf atomLine atomLines countLine spentLine runSheet refusedSheet sheetBy bytesOf row isFinished verdictsOf answers gives allGive caseOne rows caseOneSheet casesHold
 cases-hold = tt

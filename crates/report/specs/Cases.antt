@@ -63,9 +63,9 @@ gives r b =
     answers r b (withBuffers (judgementOf b) (r .scratch) (r .log))
     (answerTo (withBuffers (judgementOf b) (r .scratch) (r .log)) (runOf b (r .budget)))
 
-unfoldable pub right : List Row → Bool
-right [] = true
-right (r ∷ rs) = gives r (bytesOf (r .table)) and right rs
+unfoldable pub allGive : List Row → Bool
+allGive [] = true
+allGive (r ∷ rs) = gives r (bytesOf (r .table)) and allGive rs
 
 -- sizes A, F, N, B, P; left; right
 unfoldable pub caseOne : List ℕ
@@ -103,4 +103,4 @@ caseOneSheet =
 
 -- All of it holds: proofs/Answers.antt computes it. "(30 bytes)"
 unfoldable pub casesHold : Bool
-casesHold = right rows and eqb (length (bytesOf caseOne)) 30 and sameList (sheetOf (bytesOf caseOne)) caseOneSheet
+casesHold = allGive rows and eqb (length (bytesOf caseOne)) 30 and sameList (sheetOf (bytesOf caseOne)) caseOneSheet

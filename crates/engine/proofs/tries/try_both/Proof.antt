@@ -20,7 +20,11 @@ same-length-2 : tie.Need-same-length-2
 same-length-2 c = search needs
 
 returns : tie.Need-returns
-returns c = tried-both _ _ (c .before .before .before .before .before .before .before .before .before .before .before .before .before .before .complement .ensures) (c .before .before .before .before .before .before .before .before .before .before .before .try-literal .ensures) (c .before .before .before .before .try-literal2 .ensures)
+returns c =
+    let at-try-literal2 = c .before .before .before .before in
+    let at-try-literal = at-try-literal2 .before .before .before .before .before .before .before in
+    let at-complement = at-try-literal .before .before .before in
+    tried-both _ _ (at-complement .complement .ensures) (at-try-literal .try-literal .ensures) (at-try-literal2 .try-literal2 .ensures)
 
 pub try-both-spec : {M : Type 1} → statement M
 try-both-spec =

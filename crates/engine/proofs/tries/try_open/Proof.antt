@@ -20,10 +20,14 @@ same-length : tie.Need-same-length
 same-length c = search needs
 
 returns : tie.Need-returns
-returns c = skips-unproved _ _ (c .before .before .before .before .before .before .pre .0) _ _ (c .before .before .before .before .before .before .pre .1) (c .before .before .before .before .before .before .pre .2) _ _ _ (c .before .before .before .before .before .before .pre .3) _ ((c .before .follows .ensures) ∙ infers-at _ _ _ _ (c .before .before .before .before .before .before .pre .2)) (not-true _ (c .if1 .taken))
+returns c =
+    let start = c .before .before .before .before .before .before in
+    skips-unproved _ _ (start .pre .0) _ _ (start .pre .1) (start .pre .2) _ _ _ (start .pre .3) _ ((c .before .follows .ensures) ∙ infers-at _ _ _ _ (start .pre .2)) (not-true _ (c .if1 .taken))
 
 write-requires : tie.Need-write-requires
-write-requires c κs = ((c .before .before .before .before .before .before .before .pre .3 .ready), few _ _ (c .before .before .before .before .before .before .before .pre .0) .atoms, omega arith, (c .before .before .before .before .before .before .before .pre .4))
+write-requires c κs =
+    let start = c .before .before .before .before .before .before .before in
+    ((start .pre .3 .ready), few _ _ (start .pre .0) .atoms, omega arith, (start .pre .4))
 
 append-requires : tie.Need-append-requires
 append-requires c κs =
@@ -41,12 +45,15 @@ same-length-3 c = search needs
 
 returns-2 : tie.Need-returns-2
 returns-2 c =
-    let e = c .before .before .before .before .before .before .before .before in
+    let at-append = c .before .before in
+    let at-write = at-append .before .before .before .before in
+    let at-before = at-write .before in
+    let e = at-before .before in
     let start = e .before .before .before .before .before .before in
     let p = start .pre in
     tried-appended
-    (writes-line _ _ (p .0) _ _ (p .1) (p .2) _ _ _ (p .3) (p .4) _ (e .before .follows .ensures ∙ infers-at _ _ _ _ (p .2)) (not-false _ (e .if1 .left)) _ (c .before .before .before .before .before .before .write .ensures))
-    (c .before .before .append .ensures)
+    (writes-line _ _ (p .0) _ _ (p .1) (p .2) _ _ _ (p .3) (p .4) _ (e .before .follows .ensures ∙ infers-at _ _ _ _ (p .2)) (not-false _ (e .if1 .left)) _ (at-write .write .ensures))
+    (at-append .append .ensures)
 
 pub try-open-spec : {M : Type 1} → statement M
 try-open-spec =

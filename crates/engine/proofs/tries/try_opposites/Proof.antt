@@ -6,16 +6,30 @@ use Rattle.engine.proofs.tries.try_opposites.Statement.{statement}
 use Rattle.engine.proofs.tries.try_opposites.Tie as tie
 
 either-written-requires : tie.Need-either-written-requires
-either-written-requires c κs = (omega (arith, few _ _ (c .before .before .before .before .pre .0) .atoms), (c .before .before .before .before .pre .2), (c .before .before .before .before .pre .4 .ready .invariant .room))
+either-written-requires c κs =
+    let start = c .before .before .before .before in
+    (omega (arith, few _ _ (start .pre .0) .atoms), (start .pre .2), (start .pre .4 .ready .invariant .room))
 
 same-length : tie.Need-same-length
 same-length c = search needs
 
 returns : tie.Need-returns
-returns c = settled _ _ (c .before .before .before .before .before .before .pre .0) _ _ (c .before .before .before .before .before .before .pre .1) (c .before .before .before .before .before .before .pre .2) (c .before .before .before .before .before .before .pre .3) _ _ _ (c .before .before .before .before .before .before .pre .4) (c .before .either-written .ensures) (c .if1 .taken)
+returns c =
+    let start = c .before .before .before .before .before .before in
+    settled _ _ (start .pre .0) _ _ (start .pre .1) (start .pre .2) (start .pre .3) _ _ _ (start .pre .4) (c .before .either-written .ensures) (c .if1 .taken)
 
 try-open-requires : tie.Need-try-open-requires
-try-open-requires c κs = ((c .before .before .before .before .before .before .before .before .pre .0), (c .before .before .before .before .before .before .before .before .pre .1), omega (arith, (c .before .before .before .before .before .before .before .before .pre .2)), (c .before .before .before .before .before .before .before .before .pre .4), first-open _ _ (c .before .before .before .before .before .before .before .before .pre .0) _ _ (c .before .before .before .before .before .before .before .before .pre .1) (c .before .before .before .before .before .before .before .before .pre .2) (c .before .before .before .before .before .before .before .before .pre .3) _ _ _ (c .before .before .before .before .before .before .before .before .pre .4) (c .before .before .before .either-written .ensures) (c .before .before .if1 .left))
+try-open-requires c κs =
+    let at-if1 = c .before .before in
+    let at-either-written = at-if1 .before in
+    let start = at-either-written .before .before .before .before .before in
+    let pre = start .pre in (
+      pre .0,
+      pre .1,
+      omega (arith, (pre .2)),
+      pre .4,
+      first-open _ _ (pre .0) _ _ (pre .1) (pre .2) (pre .3) _ _ _ (pre .4) (at-either-written .either-written .ensures) (at-if1 .if1 .left),
+    )
 
 same-length-2 : tie.Need-same-length-2
 same-length-2 c = search needs
@@ -24,13 +38,29 @@ same-length-3 : tie.Need-same-length-3
 same-length-3 c = search needs
 
 returns-2 : tie.Need-returns-2
-returns-2 c = first-written _ _ (c .before .before .before .before .before .before .before .before .before .before .before .before .before .before .pre .0) _ _ (c .before .before .before .before .before .before .before .before .before .before .before .before .before .before .pre .1) (c .before .before .before .before .before .before .before .before .before .before .before .before .before .before .pre .2) (c .before .before .before .before .before .before .before .before .before .before .before .before .before .before .pre .3) _ _ _ (c .before .before .before .before .before .before .before .before .before .before .before .before .before .before .pre .4) _ _ _ (c .before .before .before .before .before .try-open .ensures) (c .if2 .taken)
+returns-2 c =
+    let at-try-open = c .before .before .before .before .before in
+    let start = at-try-open .before .before .before .before .before .before .before .before .before in
+    first-written _ _ (start .pre .0) _ _ (start .pre .1) (start .pre .2) (start .pre .3) _ _ _ (start .pre .4) _ _ _ (at-try-open .try-open .ensures) (c .if2 .taken)
 
 add-try-open : tie.Need-add-try-open
 add-try-open c = search needs
 
 try-open-requires-2 : tie.Need-try-open-requires-2
-try-open-requires-2 c κs = ((c .before .before .before .before .before .before .before .before .before .before .before .before .before .before .before .before .pre .0), (c .before .before .before .before .before .before .before .before .before .before .before .before .before .before .before .before .pre .1), omega (arith, (c .before .before .before .before .before .before .before .before .before .before .before .before .before .before .before .before .pre .2)), (c .before .before .before .before .before .before .before .try-open .ensures .logged), second-open _ _ (c .before .before .before .before .before .before .before .before .before .before .before .before .before .before .before .before .pre .0) _ _ (c .before .before .before .before .before .before .before .before .before .before .before .before .before .before .before .before .pre .1) (c .before .before .before .before .before .before .before .before .before .before .before .before .before .before .before .before .pre .2) (c .before .before .before .before .before .before .before .before .before .before .before .before .before .before .before .before .pre .3) _ _ _ (c .before .before .before .before .before .before .before .before .before .before .before .before .before .before .before .before .pre .4) (c .before .before .before .before .before .before .before .before .before .before .before .either-written .ensures) (c .before .before .before .before .before .before .before .before .before .before .if1 .left) _ _ _ (c .before .before .before .before .before .before .before .try-open .ensures) (c .before .before .if2 .left))
+try-open-requires-2 c κs =
+    let at-if2 = c .before .before in
+    let at-try-open = at-if2 .before .before .before .before .before in
+    let at-if1 = at-try-open .before .before .before in
+    let at-either-written = at-if1 .before in
+    let start = at-either-written .before .before .before .before .before in
+    let pre = start .pre in (
+      pre .0,
+      pre .1,
+      omega (arith, (pre .2)),
+      at-try-open .try-open .ensures .logged,
+      second-open _ _ (pre .0) _ _ (pre .1) (pre .2) (pre .3) _ _ _ (pre .4) (at-either-written .either-written .ensures) (at-if1 .if1 .left) _ _ _
+          (at-try-open .try-open .ensures) (at-if2 .if2 .left),
+    )
 
 same-length-4 : tie.Need-same-length-4
 same-length-4 c = search needs

@@ -16,13 +16,19 @@ same-length : tie.Need-same-length
 same-length c = search needs
 
 returns : tie.Need-returns
-returns c = rule-skipped _ (c .before .before .before .before .before .before .before .args .definite) _ _ _ (c .before .visits .ensures) (c .before .before .is-strict .ensures) (not-true _ (c .if1 .taken)) _ _ _ (c .before .before .before .before .before .before .before .pre .2)
+returns c =
+    let start = c .before .before .before .before .before .before .before in
+    rule-skipped _ (start .args .definite) _ _ _ (c .before .visits .ensures) (c .before .before .is-strict .ensures) (not-true _ (c .if1 .taken)) _ _ _ (start .pre .2)
 
 head-of-requires : tie.Need-head-of-requires
-head-of-requires c κs = (c .before .before .before .before .before .before .before .before .pre .2 .ready, c .before .before .before .before .before .before .before .before .pre .1, few _ _ (c .before .before .before .before .before .before .before .before .pre .0) .rules)
+head-of-requires c κs =
+    let start = c .before .before .before .before .before .before .before .before in
+    (start .pre .2 .ready, start .pre .1, few _ _ (start .pre .0) .rules)
 
 try-both-requires : tie.Need-try-both-requires
-try-both-requires c κs = (c .before .before .before .before .before .before .before .before .before .before .before .pre .0, head-small _ _ (c .before .before .before .before .before .before .before .before .before .before .before .pre .0) _ _ (c .before .before .before .before .before .before .before .before .before .before .before .pre .1) (c .before .before .head-of .ensures), c .before .before .before .before .before .before .before .before .before .before .before .pre .2)
+try-both-requires c κs =
+    let start = c .before .before .before .before .before .before .before .before .before .before .before in
+    (start .pre .0, head-small _ _ (start .pre .0) _ _ (start .pre .1) (c .before .before .head-of .ensures), start .pre .2)
 
 same-length-2 : tie.Need-same-length-2
 same-length-2 c = search needs
@@ -31,7 +37,15 @@ same-length-3 : tie.Need-same-length-3
 same-length-3 c = search needs
 
 returns-2 : tie.Need-returns-2
-returns-2 c = rule-visited _ (c .before .before .before .before .before .before .before .before .before .before .before .before .before .before .before .before .args .definite) _ _ _ (c .before .before .before .before .before .before .before .before .before .before .visits .ensures) (c .before .before .before .before .before .before .before .before .before .before .before .is-strict .ensures) (not-false _ (c .before .before .before .before .before .before .before .before .before .if1 .left)) _ (c .before .before .before .before .before .before .before .head-of .ensures) (c .before .before .before .before .try-both .ensures)
+returns-2 c =
+    let at-try-both = c .before .before .before .before in
+    let at-head-of = at-try-both .before .before .before in
+    let at-if1 = at-head-of .before .before in
+    let at-visits = at-if1 .before in
+    let at-is-strict = at-visits .before in
+    let start = at-is-strict .before .before .before .before .before in
+    rule-visited _ (start .args .definite) _ _ _ (at-visits .visits .ensures) (at-is-strict .is-strict .ensures) (not-false _ (at-if1 .if1 .left)) _
+    (at-head-of .head-of .ensures) (at-try-both .try-both .ensures)
 
 pub try-rule-spec : {M : Type 1} → statement M
 try-rule-spec =

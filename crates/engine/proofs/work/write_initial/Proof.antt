@@ -24,7 +24,9 @@ mul-end : tie.Need-mul-end Inv-loop μ-loop
 mul-end c = record { fits = omega (arith, few _ _ (c .before .before .before .before .pre .0) .atoms) }
 
 loop-holds : tie.Need-loop-holds Inv-loop μ-loop
-loop-holds c = (refl, omega arith, opening-start _ _ _ (c .before .before .before .before .pre .2) (omega (arith, atoms-in (c .before .before .before .before .args .table .now) (c .before .before .before .before .args .s))))
+loop-holds c =
+    let start = c .before .before .before .before in
+    (refl, omega arith, opening-start _ _ _ (start .pre .2) (omega (arith, atoms-in (start .args .table .now) (start .args .s))))
 
 try-literal-requires : tie.Need-try-literal-requires Inv-loop μ-loop
 try-literal-requires c κs = search needs
@@ -36,7 +38,11 @@ loop-less : tie.Need-loop-less Inv-loop μ-loop
 loop-less c = search needs
 
 loop-again : tie.Need-loop-again Inv-loop μ-loop
-loop-again c = (c .before .before .before .before .before .before .before .before .loop .inv .0, omega arith, opening-next _ _ _ (c .before .before .before .before .before .before .before .before .before .before .before .before .before .pre .2) _ (c .before .before .before .before .before .before .before .before .loop .inv .2) (c .before .before .before .before .try-literal .ensures))
+loop-again c =
+    let at-try-literal = c .before .before .before .before in
+    let at-loop = at-try-literal .before .before .before .before in
+    let start = at-loop .before .before .before .before .before in
+    (at-loop .loop .inv .0, omega arith, opening-next _ _ _ (start .pre .2) _ (at-loop .loop .inv .2) (at-try-literal .try-literal .ensures))
 
 same-length : tie.Need-same-length Inv-loop μ-loop
 same-length c = search needs
@@ -45,7 +51,9 @@ same-length-2 : tie.Need-same-length-2 Inv-loop μ-loop
 same-length-2 c = search needs
 
 returns : tie.Need-returns Inv-loop μ-loop
-returns c = opening-end _ _ _ (c .before .before .before .before .before .before .pre .2) _ (omega (arith, atoms-in (c .before .before .before .before .before .before .args .table .now) (c .before .before .before .before .before .before .args .s))) (c .before .loop .inv .2)
+returns c =
+    let start = c .before .before .before .before .before .before in
+    opening-end _ _ _ (start .pre .2) _ (omega (arith, atoms-in (start .args .table .now) (start .args .s))) (c .before .loop .inv .2)
 
 pub write-initial-spec : {M : Type 1} → statement M
 write-initial-spec =

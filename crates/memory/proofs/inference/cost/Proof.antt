@@ -17,7 +17,12 @@ abbrev μ-loop : tie.MeasureT-loop
 μ-loop table mem x t sum₀ end k₀ sum k = end - k
 
 loop-holds : tie.Need-loop-holds Inv-loop μ-loop
-loop-holds c = let w = uses-within _ _ _ _ (c .before .before .pre .0) (c .before .before .pre .1) (c .before .before .pre .2) (c .before .before .pre .4) in (omega arith, w .0, w .1, cost-none (λ i. chargeBy (view (c .before .before .args .mem .now)) ((c .before .before .args .x) % tagCount) (useAt (c .before .before .args .mem .now) i)) _, omega arith)
+loop-holds c =
+    let start = c .before .before in
+    let pre = start .pre in
+    let args = start .args in
+    let w = uses-within _ _ _ _ (pre .0) (pre .1) (pre .2) (pre .4) in
+    (omega arith, w .0, w .1, cost-none (λ i. chargeBy (view (args .mem .now)) ((args .x) % tagCount) (useAt (args .mem .now) i)) _, omega arith)
 
 load-use-requires : tie.Need-load-use-requires Inv-loop μ-loop
 load-use-requires c κs = (omega (arith, (c .before .loop .inv .2)), (c .before .before .before .before .pre .1 .invariant .room))
@@ -26,7 +31,11 @@ cast-charge : tie.Need-cast-charge Inv-loop μ-loop
 cast-charge c = search needs
 
 charge-requires : tie.Need-charge-requires Inv-loop μ-loop
-charge-requires c κs = (omega (arith, rule-used _ _ _ _ (c .before .before .before .before .before .pre .0) (c .before .before .before .before .before .pre .1) (c .before .before .before .before .before .pre .2) (c .before .before .before .before .before .pre .4) (c .before .before .loop .k) (c .before .before .loop .inv .0) (c .before .loop-test .taken)), (c .before .before .before .before .before .pre .1 .invariant .room))
+charge-requires c κs =
+    let at-loop = c .before .before in
+    let start = at-loop .before .before .before in
+    let pre = start .pre in
+    (omega (arith, rule-used _ _ _ _ (pre .0) (pre .1) (pre .2) (pre .4) (at-loop .loop .k) (at-loop .loop .inv .0) (c .before .loop-test .taken)), (pre .1 .invariant .room))
 
 add-sum : tie.Need-add-sum Inv-loop μ-loop
 add-sum c = search needs
@@ -38,10 +47,22 @@ loop-less : tie.Need-loop-less Inv-loop μ-loop
 loop-less c = search needs
 
 loop-again : tie.Need-loop-again Inv-loop μ-loop
-loop-again c = (omega arith, omega arith, (c .before .before .before .loop .inv .2), cost-next (λ i. chargeBy (view (c .before .before .before .before .before .before .args .mem .now)) ((c .before .before .before .before .before .before .args .x) % tagCount) (useAt (c .before .before .before .before .before .before .args .mem .now) i)) _ _ (c .before .before .before .loop .inv .0) (c .before .before .before .loop .inv .3) ((c .charge .ensures .0) ∙ ap (chargeBy (view (c .before .before .before .before .before .before .args .mem .now)) _) (c .before .load-use .ensures)), omega arith)
+loop-again c =
+    let at-loop = c .before .before .before in
+    let start = at-loop .before .before .before in
+    let args = start .args in (
+      omega arith,
+      omega arith,
+      at-loop .loop .inv .2,
+      cost-next (λ i. chargeBy (view (args .mem .now)) ((args .x) % tagCount) (useAt (args .mem .now) i)) _ _ (at-loop .loop .inv .0) (at-loop .loop .inv .3)
+          ((c .charge .ensures .0) ∙ ap (chargeBy (view (args .mem .now)) _) (c .before .load-use .ensures)),
+      omega arith,
+    )
 
 returns : tie.Need-returns Inv-loop μ-loop
-returns c = cost-all _ _ _ _ (c .before .before .before .before .pre .0) (c .before .before .before .before .pre .1) (c .before .before .before .before .pre .2) (c .before .before .before .before .pre .4) (c .before .before .before .before .pre .3) (c .before .loop .inv .1) (c .loop-test .left) (c .before .loop .inv .3)
+returns c =
+    let start = c .before .before .before .before in
+    cost-all _ _ _ _ (start .pre .0) (start .pre .1) (start .pre .2) (start .pre .4) (start .pre .3) (c .before .loop .inv .1) (c .loop-test .left) (c .before .loop .inv .3)
 
 pub cost-spec : {M : Type 1} → statement M
 cost-spec =

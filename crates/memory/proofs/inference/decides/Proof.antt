@@ -24,13 +24,21 @@ cast-size : tie.Need-cast-size
 cast-size c = search needs
 
 returns-2 : tie.Need-returns-2
-returns-2 c = decided-by-one (view (c .before .before .before .before .before .before .args .mem .now)) (c .before .before .before .before .before .before .args .t) _ (c .before .before .before .before .load .ensures) (c .before .before .before .if1 .left) (c .before .before .load2 .ensures) (c .before .load3 .ensures) (c .if2 .taken)
+returns-2 c =
+    let at-if1 = c .before .before .before in
+    let at-load = at-if1 .before in
+    let start = at-load .before .before in
+    decided-by-one (view (start .args .mem .now)) (start .args .t) _ (at-load .load .ensures) (at-if1 .if1 .left) (c .before .before .load2 .ensures) (c .before .load3 .ensures) (c .if2 .taken)
 
 add-result : tie.Need-add-result
 add-result c = search needs
 
 returns-3 : tie.Need-returns-3
-returns-3 c = decided-by-all (view (c .before .before .before .before .before .before .args .mem .now)) (c .before .before .before .before .before .before .args .t) _ (c .before .before .before .before .load .ensures) (c .before .before .before .if1 .left) (c .before .before .load2 .ensures) (c .before .load3 .ensures) (c .if2 .left)
+returns-3 c =
+    let at-if1 = c .before .before .before in
+    let at-load = at-if1 .before in
+    let start = at-load .before .before in
+    decided-by-all (view (start .args .mem .now)) (start .args .t) _ (at-load .load .ensures) (at-if1 .if1 .left) (c .before .before .load2 .ensures) (c .before .load3 .ensures) (c .if2 .left)
 
 pub decides-spec : {M : Type 1} → statement M
 decides-spec =

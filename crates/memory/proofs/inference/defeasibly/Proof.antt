@@ -16,7 +16,10 @@ load-requires : tie.Need-load-requires
 load-requires c κs = search needs
 
 returns-2 : tie.Need-returns-2
-returns-2 c = defeasibly-unsupported (view (c .before .before .before .before .before .args .mem .now)) _ (c .before .before .before .is-processed .ensures) (c .before .before .if1 .left) (c .before .load .ensures) (c .if2 .taken)
+returns-2 c =
+    let at-is-processed = c .before .before .before in
+    let start = at-is-processed .before .before in
+    defeasibly-unsupported (view (start .args .mem .now)) _ (at-is-processed .is-processed .ensures) (c .before .before .if1 .left) (c .before .load .ensures) (c .if2 .taken)
 
 other-requires : tie.Need-other-requires
 other-requires c κs = search needs
@@ -25,7 +28,15 @@ is-processed-requires-2 : tie.Need-is-processed-requires-2
 is-processed-requires-2 c κs = search needs
 
 returns-3 : tie.Need-returns-3
-returns-3 c = defeasibly-opposed (view (c .before .before .before .before .before .before .before .before .args .mem .now)) _ (c .before .before .before .before .before .before .is-processed .ensures) (c .before .before .before .before .before .if1 .left) (c .before .before .before .before .load .ensures) (c .before .before .before .if2 .left) (c .before .before .other .ensures) (c .before .is-processed2 .ensures) (not-true _ (c .if3 .taken))
+returns-3 c =
+    let at-other = c .before .before in
+    let at-if2 = at-other .before in
+    let at-load = at-if2 .before in
+    let at-if1 = at-load .before in
+    let at-is-processed = at-if1 .before in
+    let start = at-is-processed .before .before in
+    defeasibly-opposed (view (start .args .mem .now)) _ (at-is-processed .is-processed .ensures) (at-if1 .if1 .left) (at-load .load .ensures) (at-if2 .if2 .left)
+    (at-other .other .ensures) (c .before .is-processed2 .ensures) (not-true _ (c .if3 .taken))
 
 load-requires-2 : tie.Need-load-requires-2
 load-requires-2 c κs = search needs
@@ -34,7 +45,17 @@ load-requires-3 : tie.Need-load-requires-3
 load-requires-3 c κs = search needs
 
 returns-4 : tie.Need-returns-4
-returns-4 c = defeasibly-countered (view (c .before .before .before .before .before .before .before .before .before .before .args .mem .now)) _ (c .before .before .before .before .before .before .before .before .is-processed .ensures) (c .before .before .before .before .before .before .before .if1 .left) (c .before .before .before .before .before .before .load .ensures) (c .before .before .before .before .before .if2 .left) (c .before .before .before .before .other .ensures) (c .before .before .before .is-processed2 .ensures) (not-false _ (c .before .before .if3 .left)) (c .before .load2 .ensures) (c .load3 .ensures)
+returns-4 c =
+    let at-if3 = c .before .before in
+    let at-is-processed2 = at-if3 .before in
+    let at-other = at-is-processed2 .before in
+    let at-if2 = at-other .before in
+    let at-load = at-if2 .before in
+    let at-if1 = at-load .before in
+    let at-is-processed = at-if1 .before in
+    let start = at-is-processed .before .before in
+    defeasibly-countered (view (start .args .mem .now)) _ (at-is-processed .is-processed .ensures) (at-if1 .if1 .left) (at-load .load .ensures) (at-if2 .if2 .left)
+    (at-other .other .ensures) (at-is-processed2 .is-processed2 .ensures) (not-false _ (at-if3 .if3 .left)) (c .before .load2 .ensures) (c .load3 .ensures)
 
 pub defeasibly-spec : {M : Type 1} → statement M
 defeasibly-spec =

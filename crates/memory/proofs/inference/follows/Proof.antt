@@ -33,19 +33,29 @@ not-defeasibly-requires c κs = (small-literal _ _ _ (c .before .before .before 
 
 returns : tie.Need-returns
 unfolding systemOf
-returns c = follows-0 _ _ _ _ (c .before .before .before .before .pre .0) (c .before .before .before .before .pre .1) (eighth _ _ (c .before .before .before .before .pre .2)) (c .before .match .keys1) (c .definitely .ensures)
+returns c =
+    let start = c .before .before .before .before in
+    follows-0 _ _ _ _ (start .pre .0) (start .pre .1) (eighth _ _ (start .pre .2)) (c .before .match .keys1) (c .definitely .ensures)
 
 returns-2 : tie.Need-returns-2
 unfolding systemOf
-returns-2 c = follows-1 _ _ _ _ (c .before .before .before .before .pre .0) (c .before .before .before .before .pre .1) (eighth _ _ (c .before .before .before .before .pre .2)) (c .before .match .keys2) (c .not-definitely .ensures)
+returns-2 c =
+    let start = c .before .before .before .before in
+    follows-1 _ _ _ _ (start .pre .0) (start .pre .1) (eighth _ _ (start .pre .2)) (c .before .match .keys2) (c .not-definitely .ensures)
 
 returns-3 : tie.Need-returns-3
 unfolding systemOf
-returns-3 c = follows-2 _ _ _ _ (c .before .before .before .before .pre .0) (c .before .before .before .before .pre .1) (eighth _ _ (c .before .before .before .before .pre .2)) (c .before .match .keys3) (c .defeasibly .ensures)
+returns-3 c =
+    let start = c .before .before .before .before in
+    follows-2 _ _ _ _ (start .pre .0) (start .pre .1) (eighth _ _ (start .pre .2)) (c .before .match .keys3) (c .defeasibly .ensures)
 
 returns-4 : tie.Need-returns-4
 unfolding systemOf
-returns-4 c = follows-3 _ _ _ _ (c .before .before .before .before .pre .0) (c .before .before .before .before .pre .1) (eighth _ _ (c .before .before .before .before .pre .2)) (c .before .match .rest .0 .0 .1) (c .before .match .rest .0 .1) (c .before .match .rest .1) (mod-lt _ (omega arith)) (c .not-defeasibly .ensures)
+returns-4 c =
+    let start = c .before .before .before .before in
+    let pre = start .pre in
+    follows-3 _ _ _ _ (pre .0) (pre .1) (eighth _ _ (pre .2)) (c .before .match .rest .0 .0 .1) (c .before .match .rest .0 .1) (c .before .match .rest .1)
+    (mod-lt _ (omega arith)) (c .not-defeasibly .ensures)
 
 pub follows-spec : {M : Type 1} → statement M
 follows-spec =

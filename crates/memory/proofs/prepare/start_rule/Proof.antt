@@ -11,22 +11,44 @@ visit-definite-requires : tie.Need-visit-definite-requires
 visit-definite-requires c κs = definite-asks _ _ _ _ _ (first-asks _ _ _ (c .before .before .before .pre .0) (c .before .before .before .pre .1) (c .before .before .before .pre .2)) (omega arith)
 
 reaches-requires : tie.Need-reaches-requires
-reaches-requires c κs = reaches-asks _ _ _ _ _ (second-asks _ _ _ (c .before .before .before .before .before .before .before .pre .0) (c .before .before .before .before .before .before .before .pre .1) (c .before .before .before .before .before .before .before .pre .2) (c .before .before .before .visit-definite .ensures))
+reaches-requires c κs =
+    let at-visit-definite = c .before .before .before in
+    let start = at-visit-definite .before .before .before .before in
+    reaches-asks _ _ _ _ _ (second-asks _ _ _ (start .pre .0) (start .pre .1) (start .pre .2) (at-visit-definite .visit-definite .ensures))
 
 same-length : tie.Need-same-length
 same-length c = search needs
 
 returns : tie.Need-returns
-returns c = started-next _ _ _ (c .before .before .before .before .before .before .before .before .before .before .before .pre .1) (c .before .before .before .before .before .before .before .visit-definite .ensures) (visit-undecided _ _ _ _ _ (second-asks _ _ _ (c .before .before .before .before .before .before .before .before .before .before .before .pre .0) (c .before .before .before .before .before .before .before .before .before .before .before .pre .1) (c .before .before .before .before .before .before .before .before .before .before .before .pre .2) (c .before .before .before .before .before .before .before .visit-definite .ensures)) _ (c .before .before .before .reaches .ensures) (not-true _ (c .if1 .taken)))
+returns c =
+    let at-reaches = c .before .before .before in
+    let at-visit-definite = at-reaches .before .before .before .before in
+    let start = at-visit-definite .before .before .before .before in
+    let pre = start .pre in
+    started-next _ _ _ (pre .1) (at-visit-definite .visit-definite .ensures)
+    (visit-undecided _ _ _ _ _ (second-asks _ _ _ (pre .0) (pre .1) (pre .2) (at-visit-definite .visit-definite .ensures)) _ (at-reaches .reaches .ensures) (not-true _ (c .if1 .taken)))
 
 decide-requires : tie.Need-decide-requires
-decide-requires c κs = decide-asks _ _ _ _ _ (second-asks _ _ _ (c .before .before .before .before .before .before .before .before .before .before .before .before .pre .0) (c .before .before .before .before .before .before .before .before .before .before .before .before .pre .1) (c .before .before .before .before .before .before .before .before .before .before .before .before .pre .2) (c .before .before .before .before .before .before .before .before .visit-definite .ensures)) _ (c .before .before .before .before .reaches .ensures) (not-false _ (c .before .if1 .left)) (omega arith)
+decide-requires c κs =
+    let at-reaches = c .before .before .before .before in
+    let at-visit-definite = at-reaches .before .before .before .before in
+    let start = at-visit-definite .before .before .before .before in
+    let pre = start .pre in
+    decide-asks _ _ _ _ _ (second-asks _ _ _ (pre .0) (pre .1) (pre .2) (at-visit-definite .visit-definite .ensures)) _ (at-reaches .reaches .ensures)
+    (not-false _ (c .before .if1 .left)) (omega arith)
 
 same-length-2 : tie.Need-same-length-2
 same-length-2 c = search needs
 
 returns-2 : tie.Need-returns-2
-returns-2 c = started-next _ _ _ (c .before .before .before .before .before .before .before .before .before .before .before .before .before .before .before .pre .1) (c .before .before .before .before .before .before .before .before .before .before .before .visit-definite .ensures) (visit-decided _ _ _ _ _ (second-asks _ _ _ (c .before .before .before .before .before .before .before .before .before .before .before .before .before .before .before .pre .0) (c .before .before .before .before .before .before .before .before .before .before .before .before .before .before .before .pre .1) (c .before .before .before .before .before .before .before .before .before .before .before .before .before .before .before .pre .2) (c .before .before .before .before .before .before .before .before .before .before .before .visit-definite .ensures)) _ (c .before .before .before .before .before .before .before .reaches .ensures) _ (c .before .before .decide .ensures))
+returns-2 c =
+    let at-decide = c .before .before in
+    let at-reaches = at-decide .before .before .before .before .before in
+    let at-visit-definite = at-reaches .before .before .before .before in
+    let start = at-visit-definite .before .before .before .before in
+    let pre = start .pre in
+    started-next _ _ _ (pre .1) (at-visit-definite .visit-definite .ensures)
+    (visit-decided _ _ _ _ _ (second-asks _ _ _ (pre .0) (pre .1) (pre .2) (at-visit-definite .visit-definite .ensures)) _ (at-reaches .reaches .ensures) _ (at-decide .decide .ensures))
 
 pub start-rule-spec : {M : Type 1} → statement M
 start-rule-spec =

@@ -15,13 +15,21 @@ wide-requires-2 : tie.Need-wide-requires-2
 wide-requires-2 c κs = search needs
 
 store-requires : tie.Need-store-requires
-store-requires c κs = mark-asks _ _ _ _ _ _ refl refl (c .before .before .before .before .before .before .before .before .before .pre .0) _ _ _ (c .before .wide .ensures) (c .wide2 .ensures) (c .before .before .before .before .before .visit-uses .ensures)
+store-requires c κs =
+    let at-visit-uses = c .before .before .before .before .before in
+    let start = at-visit-uses .before .before .before .before in
+    mark-asks _ _ _ _ _ _ refl refl (start .pre .0) _ _ _ (c .before .wide .ensures) (c .wide2 .ensures) (at-visit-uses .visit-uses .ensures)
 
 same-length : tie.Need-same-length
 same-length c = search needs
 
 returns : tie.Need-returns
-returns c = added-of _ _ _ _ _ _ refl refl (c .before .before .before .before .before .before .before .before .before .before .before .before .pre .0) _ _ _ _ (c .before .before .before .before .wide .ensures) (c .before .before .before .wide2 .ensures) (c .before .before .before .before .before .before .before .before .visit-uses .ensures) (c .before .before .store .ensures)
+returns c =
+    let at-wide2 = c .before .before .before in
+    let at-wide = at-wide2 .before in
+    let at-visit-uses = at-wide .before .before .before .before in
+    let start = at-visit-uses .before .before .before .before in
+    added-of _ _ _ _ _ _ refl refl (start .pre .0) _ _ _ _ (at-wide .wide .ensures) (at-wide2 .wide2 .ensures) (at-visit-uses .visit-uses .ensures) (c .before .before .store .ensures)
 
 pub add-spec : {M : Type 1} → statement M
 add-spec =

@@ -11,7 +11,10 @@ same-length : tie.Need-same-length
 same-length c = search needs
 
 returns : tie.Need-returns
-returns c = raised-yes _ _ _ _ _ (c .before .before .before .before .if1 .taken) (c .before .before .before .before .before .before .pre .0) (c .before .before .before .before .before .before .pre .1) (c .before .before .before .before .before .before .pre .2) (c .before .before .bump .ensures)
+returns c =
+    let at-if1 = c .before .before .before .before in
+    let start = at-if1 .before .before in
+    raised-yes _ _ _ _ _ (at-if1 .if1 .taken) (start .pre .0) (start .pre .1) (start .pre .2) (c .before .before .bump .ensures)
 
 returns-2 : tie.Need-returns-2
 returns-2 c = raised-no _ _ _ _ (c .if1 .left)

@@ -27,13 +27,26 @@ both-requires : tie.Need-both-requires
 both-requires c κs = search needs
 
 bump-if-requires-2 : tie.Need-bump-if-requires-2
-bump-if-requires-2 c κs = next-small _ _ _ _ _ _ (c .before .before .before .before .before .before .before .before .before .before .before .before .pre .0 .2) (c .before .before .before .before .before .before .before .before .before .before .before .before .pre .0 .3) (c .before .before .before .before .before .before .before .before .wide .ensures ∙ c .before .before .before .before .before .before .before .before .before .load .ensures) (c .before .before .before .before .before .before .bump-if .ensures) (c .before .before .before .before .before .before .before .before .before .before .before .before .pre .1)
+bump-if-requires-2 c κs =
+    let at-bump-if = c .before .before .before .before .before .before in
+    let at-wide = at-bump-if .before .before in
+    let at-load = at-wide .before in
+    let start = at-load .before .before .before in
+    next-small _ _ _ _ _ _ (start .pre .0 .2) (start .pre .0 .3) (at-wide .wide .ensures ∙ at-load .load .ensures) (at-bump-if .bump-if .ensures) (start .pre .1)
 
 same-length : tie.Need-same-length
 same-length c = search needs
 
 returns : tie.Need-returns
-returns c = notified-of _ _ _ _ _ _ _ _ _ _ (c .before .before .before .before .before .before .before .before .before .before .before .wide .ensures ∙ c .before .before .before .before .before .before .before .before .before .before .before .before .load .ensures) refl (c .before .before .before .before .before .reached-by-rival .ensures) (c .before .before .before .both .ensures) (c .before .before .before .before .before .before .before .before .before .bump-if .ensures) (c .before .before .bump-if2 .ensures)
+returns c =
+    let at-bump-if2 = c .before .before in
+    let at-both = at-bump-if2 .before in
+    let at-reached-by-rival = at-both .before .before in
+    let at-bump-if = at-reached-by-rival .before .before .before .before in
+    let at-wide = at-bump-if .before .before in
+    let at-load = at-wide .before in
+    notified-of _ _ _ _ _ _ _ _ _ _ (at-wide .wide .ensures ∙ at-load .load .ensures) refl (at-reached-by-rival .reached-by-rival .ensures) (at-both .both .ensures)
+    (at-bump-if .bump-if .ensures) (at-bump-if2 .bump-if2 .ensures)
 
 pub notify-spec : {M : Type 1} → statement M
 notify-spec =

@@ -26,7 +26,14 @@ same-length : tie.Need-same-length
 same-length c = search needs
 
 returns : tie.Need-returns
-returns c = just-reached-read (c .before .before .before .before .before .before .before .before .before .before .args .mem .now) (c .before .before .before .before .before .before .before .before .before .before .args .r) (c .before .before .before .before .before .before .before .before .before .before .args .t) _ (c .before .before .before .before .before .before .before .before .before .before .pre .0) (c .before .before .before .before .before .before .before .before .before .before .pre .1) (c .before .before .before .before .before .before .before .before .before .before .pre .2) (c .before .before .before .before .before .bump .ensures) (c .before .before .before .before .before .before .before .load .ensures) (c .before .load2 .ensures) (c .threshold .ensures)
+returns c =
+    let at-bump = c .before .before .before .before .before in
+    let at-load = at-bump .before .before in
+    let start = at-load .before .before .before in
+    let pre = start .pre in
+    let args = start .args in
+    just-reached-read (args .mem .now) (args .r) (args .t) _ (pre .0) (pre .1) (pre .2) (at-bump .bump .ensures) (at-load .load .ensures) (c .before .load2 .ensures)
+    (c .threshold .ensures)
 
 pub reaches-spec : {M : Type 1} → statement M
 reaches-spec =

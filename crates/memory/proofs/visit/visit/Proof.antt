@@ -24,13 +24,20 @@ returns-2 : tie.Need-returns-2
 returns-2 c = visit-undecided _ _ _ _ _ (c .before .before .before .before .before .before .before .before .pre) _ (c .before .before .before .reaches .ensures) (not-true _ (c .if2 .taken))
 
 decide-requires : tie.Need-decide-requires
-decide-requires c κs = decide-asks _ _ _ _ _ (c .before .before .before .before .before .before .before .before .before .pre) _ (c .before .before .before .before .reaches .ensures) (not-false _ (c .before .if2 .left)) (c .before .before .before .before .before .before .if1 .left)
+decide-requires c κs =
+    let at-reaches = c .before .before .before .before in
+    let at-if1 = at-reaches .before .before in
+    let start = at-if1 .before .before .before in
+    decide-asks _ _ _ _ _ (start .pre) _ (at-reaches .reaches .ensures) (not-false _ (c .before .if2 .left)) (at-if1 .if1 .left)
 
 same-length-3 : tie.Need-same-length-3
 same-length-3 c = search needs
 
 returns-3 : tie.Need-returns-3
-returns-3 c = visit-decided _ _ _ _ _ (c .before .before .before .before .before .before .before .before .before .before .before .before .pre) _ (c .before .before .before .before .before .before .before .reaches .ensures) _ (c .before .before .decide .ensures)
+returns-3 c =
+    let at-reaches = c .before .before .before .before .before .before .before in
+    let start = at-reaches .before .before .before .before .before in
+    visit-decided _ _ _ _ _ (start .pre) _ (at-reaches .reaches .ensures) _ (c .before .before .decide .ensures)
 
 pub visit-spec : {M : Type 1} → statement M
 visit-spec =

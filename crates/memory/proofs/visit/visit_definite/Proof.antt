@@ -16,7 +16,12 @@ same-length c = search needs
 
 returns : tie.Need-returns
 unfolding theoryIn
-returns c = undecided _ _ _ _ _ (omega (arith, (c .before .before .before .before .before .before .before .pre .0 .3))) (c .before .before .before .before .before .before .before .pre .0 .2) (c .before .before .before .before .before .before .before .pre .0 .1) (c .before .before .before .before .before .before .before .pre .0 .4) (c .before .before .before .reaches .ensures .0) (c .before .before .before .reaches .ensures .1) (not-true _ (c .if1 .taken))
+returns c =
+    let at-reaches = c .before .before .before in
+    let start = at-reaches .before .before .before .before in
+    let pre = start .pre in
+    undecided _ _ _ _ _ (omega (arith, (pre .0 .3))) (pre .0 .2) (pre .0 .1) (pre .0 .4) (at-reaches .reaches .ensures .0) (at-reaches .reaches .ensures .1)
+    (not-true _ (c .if1 .taken))
 
 load-requires : tie.Need-load-requires
 load-requires c κs = search needs
@@ -32,14 +37,32 @@ add-bump-if c = search needs
 
 bump-if-requires : tie.Need-bump-if-requires
 unfolding theoryIn
-bump-if-requires c κs = definite-small _ _ _ _ _ (omega (arith, (c .before .before .before .before .before .before .before .before .before .before .before .before .before .pre .0 .3))) (c .before .before .before .before .before .before .before .before .before .before .before .before .before .pre .0 .2) (c .before .before .before .before .before .before .before .before .before .before .before .before .before .pre .0 .1) (c .before .before .before .before .before .before .before .before .before .before .before .before .before .pre .0 .4) (c .before .before .before .before .before .before .before .before .before .reaches .ensures .0) (c .before .before .before .before .before .before .before .before .before .reaches .ensures .1) (not-false _ (c .before .before .before .before .before .before .if1 .left)) ((c .before .before .before .wide .ensures) ∙ (c .before .before .before .before .load .ensures)) (c .before .load2 .ensures) (c .before .before .before .before .before .before .before .before .before .before .before .before .before .pre .0 .0) (c .before .before .before .before .before .before .before .before .before .before .before .before .before .pre .0 .3)
+bump-if-requires c κs =
+    let at-wide = c .before .before .before in
+    let at-load = at-wide .before in
+    let at-if1 = at-load .before .before in
+    let at-reaches = at-if1 .before .before .before in
+    let start = at-reaches .before .before .before .before in
+    let pre = start .pre in
+    definite-small _ _ _ _ _ (omega (arith, (pre .0 .3))) (pre .0 .2) (pre .0 .1) (pre .0 .4) (at-reaches .reaches .ensures .0) (at-reaches .reaches .ensures .1)
+    (not-false _ (at-if1 .if1 .left)) ((at-wide .wide .ensures) ∙ (at-load .load .ensures)) (c .before .load2 .ensures) (pre .0 .0) (pre .0 .3)
 
 same-length-2 : tie.Need-same-length-2
 same-length-2 c = search needs
 
 returns-2 : tie.Need-returns-2
 unfolding theoryIn
-returns-2 c = definite-end _ _ _ _ _ (omega (arith, (c .before .before .before .before .before .before .before .before .before .before .before .before .before .before .before .before .pre .0 .3))) (c .before .before .before .before .before .before .before .before .before .before .before .before .before .before .before .before .pre .0 .2) (c .before .before .before .before .before .before .before .before .before .before .before .before .before .before .before .before .pre .0 .1) (c .before .before .before .before .before .before .before .before .before .before .before .before .before .before .before .before .pre .0 .4) (c .before .before .before .before .before .before .before .before .before .before .before .before .reaches .ensures .0) (c .before .before .before .before .before .before .before .before .before .before .before .before .reaches .ensures .1) (not-false _ (c .before .before .before .before .before .before .before .before .before .if1 .left)) ((c .before .before .before .before .before .before .wide .ensures) ∙ (c .before .before .before .before .before .before .before .load .ensures)) (c .before .before .before .before .load2 .ensures) _ (c .before .before .before .before .before .before .before .before .before .before .before .before .before .before .before .before .pre .0 .3) (c .before .before .bump-if .ensures)
+returns-2 c =
+    let at-bump-if = c .before .before in
+    let at-load2 = at-bump-if .before .before in
+    let at-wide = at-load2 .before .before in
+    let at-load = at-wide .before in
+    let at-if1 = at-load .before .before in
+    let at-reaches = at-if1 .before .before .before in
+    let start = at-reaches .before .before .before .before in
+    let pre = start .pre in
+    definite-end _ _ _ _ _ (omega (arith, (pre .0 .3))) (pre .0 .2) (pre .0 .1) (pre .0 .4) (at-reaches .reaches .ensures .0) (at-reaches .reaches .ensures .1)
+    (not-false _ (at-if1 .if1 .left)) ((at-wide .wide .ensures) ∙ (at-load .load .ensures)) (at-load2 .load2 .ensures) _ (pre .0 .3) (at-bump-if .bump-if .ensures)
 
 pub visit-definite-spec : {M : Type 1} → statement M
 visit-definite-spec =

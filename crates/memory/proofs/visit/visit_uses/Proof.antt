@@ -17,7 +17,9 @@ loop-holds : tie.Need-loop-holds Inv-loop μ-loop
 loop-holds c = uses-start-of _ _ _ _ _ (c .before .before .pre .0) (c .before .before .pre .1 .2)
 
 load-use-requires : tie.Need-load-use-requires Inv-loop μ-loop
-load-use-requires c κs = use-asks-small _ _ _ _ _ (c .before .before .before .before .before .pre .0) (c .before .before .before .before .before .pre .1 .2) _ _ (c .before .before .loop .inv) (c .before .loop-test .taken)
+load-use-requires c κs =
+    let start = c .before .before .before .before .before in
+    use-asks-small _ _ _ _ _ (start .pre .0) (start .pre .1 .2) _ _ (c .before .before .loop .inv) (c .before .loop-test .taken)
 
 wide-requires : tie.Need-wide-requires Inv-loop μ-loop
 wide-requires c κs = search needs
@@ -26,7 +28,14 @@ wide-requires-2 : tie.Need-wide-requires-2 Inv-loop μ-loop
 wide-requires-2 c κs = search needs
 
 visit-requires : tie.Need-visit-requires Inv-loop μ-loop
-visit-requires c κs = asks-wide _ _ _ (c .before .wide .ensures) (c .wide2 .ensures) (visit-asks _ _ _ _ _ (c .before .before .before .before .before .before .before .before .before .pre .0) (c .before .before .before .before .before .before .before .before .before .pre .1 .2) _ _ (c .before .before .before .before .before .before .loop .inv) (c .before .before .before .before .before .loop-test .taken) _ (c .before .before .before .load-use .ensures))
+visit-requires c κs =
+    let at-load-use = c .before .before .before in
+    let at-loop-test = at-load-use .before .before in
+    let at-loop = at-loop-test .before in
+    let start = at-loop .before .before .before in
+    let pre = start .pre in
+    asks-wide _ _ _ (c .before .wide .ensures) (c .wide2 .ensures)
+    (visit-asks _ _ _ _ _ (pre .0) (pre .1 .2) _ _ (at-loop .loop .inv) (at-loop-test .loop-test .taken) _ (at-load-use .load-use .ensures))
 
 add-k : tie.Need-add-k Inv-loop μ-loop
 add-k c = search needs
@@ -35,7 +44,17 @@ loop-less : tie.Need-loop-less Inv-loop μ-loop
 loop-less c = search needs
 
 loop-again : tie.Need-loop-again Inv-loop μ-loop
-loop-again c = uses-next-of _ _ _ _ _ (c .before .before .before .before .before .before .before .before .before .before .before .before .pre .0) (c .before .before .before .before .before .before .before .before .before .before .before .before .pre .1 .2) _ _ (c .before .before .before .before .before .before .before .before .before .loop .inv) (c .before .before .before .before .before .before .before .before .loop-test .taken) _ (c .before .before .before .before .before .before .load-use .ensures) _ (visit-wide _ _ _ (c .before .before .before .before .wide .ensures) (c .before .before .before .wide2 .ensures) _ (c .before .before .visit .ensures))
+loop-again c =
+    let at-visit = c .before .before in
+    let at-wide2 = at-visit .before in
+    let at-wide = at-wide2 .before in
+    let at-load-use = at-wide .before .before in
+    let at-loop-test = at-load-use .before .before in
+    let at-loop = at-loop-test .before in
+    let start = at-loop .before .before .before in
+    let pre = start .pre in
+    uses-next-of _ _ _ _ _ (pre .0) (pre .1 .2) _ _ (at-loop .loop .inv) (at-loop-test .loop-test .taken) _ (at-load-use .load-use .ensures) _
+    (visit-wide _ _ _ (at-wide .wide .ensures) (at-wide2 .wide2 .ensures) _ (at-visit .visit .ensures))
 
 same-length : tie.Need-same-length Inv-loop μ-loop
 same-length c = search needs

@@ -34,7 +34,9 @@ wide-requires-3 : tie.Need-wide-requires-3 Inv-loop μ-loop
 wide-requires-3 c κs = search needs
 
 loop-holds : tie.Need-loop-holds Inv-loop μ-loop
-loop-holds c = walk-start _ _ _ _ _ (c .before .before .before .before .before .before .before .before .before .before .pre .1 .0 .0) (c .before .before .before .before .before .before .before .before .before .before .pre .1 .0 .1) (c .wide3 .ensures ∙ c .before .load2 .ensures)
+loop-holds c =
+    let start = c .before .before .before .before .before .before .before .before .before .before in
+    walk-start _ _ _ _ _ (start .pre .1 .0 .0) (start .pre .1 .0 .1) (c .wide3 .ensures ∙ c .before .load2 .ensures)
 
 read-pair-requires : tie.Need-read-pair-requires Inv-loop μ-loop
 read-pair-requires c κs = search needs
@@ -47,14 +49,32 @@ same-length c = search needs
 
 returns : tie.Need-returns Inv-loop μ-loop
 unfolding theoryIn
-returns c = (c .before .before .before .before .loop .inv .unchanged, walk-end _ (c .before .before .before .before .before .before .before .before .before .before .before .before .before .before .before .pre .0 .0) _ _ _ _ _ (c .before .before .before .before .loop .inv) (λ _ e. c .if1 .taken (c .before .wide4 .ensures ∙ strong-read _ _ _ _ (c .before .before .read-pair .ensures) ∙ e)))
+returns c =
+    let at-read-pair = c .before .before in
+    let at-loop = at-read-pair .before .before in
+    let start = at-loop .before .before .before .before .before .before .before .before .before .before .before in (
+      at-loop .loop .inv .unchanged,
+      walk-end _ (start .pre .0 .0) _ _ _ _ _ (at-loop .loop .inv)
+          (λ _ e. c .if1 .taken (c .before .wide4 .ensures ∙ strong-read _ _ _ _ (at-read-pair .read-pair .ensures) ∙ e)),
+    )
 
 wide-requires-5 : tie.Need-wide-requires-5 Inv-loop μ-loop
 wide-requires-5 c κs = search needs
 
 notify-requires : tie.Need-notify-requires Inv-loop μ-loop
 unfolding theoryIn
-notify-requires c κs = turn-asks _ (c .before .before .before .before .before .before .before .before .before .before .before .before .before .before .before .before .before .pre .0 .0) _ _ _ _ _ (c .before .before .before .before .before .before .loop .inv) _ (c .before .before .before .before .before .before .before .before .before .before .before .before .before .before .before .before .before .pre .0 .2) (c .before .before .before .before .before .before .before .before .before .before .before .before .before .before .before .before .before .pre .0 .3) (omega (arith, c .before .before .before .before .before .loop-test .taken, c .before .before .before .before .before .before .before .before .before .before .before .before .before .before .wide .ensures)) (sym (strong-read _ _ _ _ (c .before .before .before .before .read-pair .ensures)) ∙ sym (c .before .before .before .wide4 .ensures) ∙ c .before .before .if1 .left) (c .wide5 .ensures ∙ weak-read _ _ _ _ (c .before .before .before .before .read-pair .ensures))
+notify-requires c κs =
+    let at-if1 = c .before .before in
+    let at-wide4 = at-if1 .before in
+    let at-read-pair = at-wide4 .before in
+    let at-loop-test = at-read-pair .before in
+    let at-loop = at-loop-test .before in
+    let at-wide = at-loop .before .before .before .before .before .before .before .before in
+    let start = at-wide .before .before .before in
+    let pre = start .pre in
+    turn-asks _ (pre .0 .0) _ _ _ _ _ (at-loop .loop .inv) _ (pre .0 .2) (pre .0 .3) (omega (arith, at-loop-test .loop-test .taken, at-wide .wide .ensures))
+    (sym (strong-read _ _ _ _ (at-read-pair .read-pair .ensures)) ∙ sym (at-wide4 .wide4 .ensures) ∙ at-if1 .if1 .left)
+    (c .wide5 .ensures ∙ weak-read _ _ _ _ (at-read-pair .read-pair .ensures))
 
 add-i : tie.Need-add-i Inv-loop μ-loop
 add-i c = search needs
@@ -64,14 +84,35 @@ loop-less c = search needs
 
 loop-again : tie.Need-loop-again Inv-loop μ-loop
 unfolding theoryIn
-loop-again c = turn-next _ (c .before .before .before .before .before .before .before .before .before .before .before .before .before .before .before .before .before .before .before .before .pre .0 .0) _ _ _ _ _ (c .before .before .before .before .before .before .before .before .before .loop .inv) _ (c .before .before .before .before .before .before .before .before .before .before .before .before .before .before .before .before .before .before .before .before .pre .0 .2) (c .before .before .before .before .before .before .before .before .before .before .before .before .before .before .before .before .before .before .before .before .pre .0 .3) (omega (arith, c .before .before .before .before .before .before .before .before .loop-test .taken, c .before .before .before .before .before .before .before .before .before .before .before .before .before .before .before .before .before .wide .ensures)) (sym (strong-read _ _ _ _ (c .before .before .before .before .before .before .before .read-pair .ensures)) ∙ sym (c .before .before .before .before .before .before .wide4 .ensures) ∙ c .before .before .before .before .before .if1 .left) (c .before .before .before .wide5 .ensures ∙ weak-read _ _ _ _ (c .before .before .before .before .before .before .before .read-pair .ensures)) (c .before .before .before .before .before .before .before .before .before .before .before .before .before .before .before .before .before .before .before .before .pre .0 .4) _ (opposite-is _ _ _ _ _ _ _ _ (c .before .before .before .before .before .before .before .before .before .before .before .before .before .before .before .before .before .before .before .before .pre .1 .0 .1) (c .before .before .before .before .before .before .before .before .before .before .before .before .before .before .before .before .before .before .before .before .pre .0 .1) (c .before .before .before .before .before .before .before .before .before .before .before .before .before .before .before .load .ensures) (c .before .before .before .before .before .before .before .before .before .before .before .before .before .before .complement .ensures) (c .before .before .before .before .before .before .before .before .before .before .before .before .before .wide2 .ensures)) _ (c .before .before .notify .ensures)
+loop-again c =
+    let at-notify = c .before .before in
+    let at-wide5 = at-notify .before in
+    let at-if1 = at-wide5 .before .before in
+    let at-wide4 = at-if1 .before in
+    let at-read-pair = at-wide4 .before in
+    let at-loop-test = at-read-pair .before in
+    let at-loop = at-loop-test .before in
+    let at-wide2 = at-loop .before .before .before .before in
+    let at-complement = at-wide2 .before in
+    let at-load = at-complement .before in
+    let at-wide = at-load .before .before in
+    let start = at-wide .before .before .before in
+    let pre = start .pre in
+    turn-next _ (pre .0 .0) _ _ _ _ _ (at-loop .loop .inv) _ (pre .0 .2) (pre .0 .3) (omega (arith, at-loop-test .loop-test .taken, at-wide .wide .ensures))
+    (sym (strong-read _ _ _ _ (at-read-pair .read-pair .ensures)) ∙ sym (at-wide4 .wide4 .ensures) ∙ at-if1 .if1 .left)
+    (at-wide5 .wide5 .ensures ∙ weak-read _ _ _ _ (at-read-pair .read-pair .ensures)) (pre .0 .4) _
+    (opposite-is _ _ _ _ _ _ _ _ (pre .1 .0 .1) (pre .0 .1) (at-load .load .ensures) (at-complement .complement .ensures) (at-wide2 .wide2 .ensures)) _
+    (at-notify .notify .ensures)
 
 same-length-2 : tie.Need-same-length-2 Inv-loop μ-loop
 same-length-2 c = search needs
 
 returns-2 : tie.Need-returns-2 Inv-loop μ-loop
 unfolding theoryIn
-returns-2 c = (c .before .loop .inv .unchanged, walk-end _ (c .before .before .before .before .before .before .before .before .before .before .before .before .pre .0 .0) _ _ _ _ _ (c .before .loop .inv) (λ h _. absurd (omega (arith, c .loop-test .left, c .before .before .before .before .before .before .before .before .before .wide .ensures))))
+returns-2 c =
+    let at-wide = c .before .before .before .before .before .before .before .before .before in
+    let start = at-wide .before .before .before in
+    (c .before .loop .inv .unchanged, walk-end _ (start .pre .0 .0) _ _ _ _ _ (c .before .loop .inv) (λ h _. absurd (omega (arith, c .loop-test .left, at-wide .wide .ensures))))
 
 pub walk-spec : {M : Type 1} → statement M
 walk-spec =

@@ -20,7 +20,10 @@ same-length : tie.Need-same-length
 same-length c = search needs
 
 returns : tie.Need-returns
-returns c = c .before .before .store .ensures ∙ ap (λ n. set (c .before .before .before .before .before .before .before .args .mem .now) (fieldSize * c .before .before .before .before .before .before .before .args .field + c .before .before .before .before .before .before .before .args .i) (n + 1)) (c .before .before .before .before .load .ensures)
+returns c =
+    let at-load = c .before .before .before .before in
+    let start = at-load .before .before .before in
+    c .before .before .store .ensures ∙ ap (λ n. set (start .args .mem .now) (fieldSize * start .args .field + start .args .i) (n + 1)) (at-load .load .ensures)
 
 pub bump-spec : {M : Type 1} → statement M
 bump-spec = tie.close (tie.spec load-requires add-store store-requires same-length returns)

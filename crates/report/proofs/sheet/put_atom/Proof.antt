@@ -17,16 +17,32 @@ slice-aggregate-put : tie.Need-slice-aggregate-put
 slice-aggregate-put c = search needs
 
 put-requires : tie.Need-put-requires
-put-requires c κs = omega (arith, (c .before .before .before .before .before .before .before .pre), atom-parts (c .before .before .before .before .before .before .before .args .a) (meant (c .before .before .before .before .before .before .before .args .v)), (c .before .before .before .before .put-number .ensures .end), (c .before .before .before .before .put-number .kept .0))
+put-requires c κs =
+    let at-put-number = c .before .before .before .before in
+    let start = at-put-number .before .before .before in
+    omega (arith, (start .pre), atom-parts (start .args .a) (meant (start .args .v)), (at-put-number .put-number .ensures .end), (at-put-number .put-number .kept .0))
 
 put-verdict-requires : tie.Need-put-verdict-requires
-put-verdict-requires c κs = omega (arith, (c .before .before .before .before .before .before .before .before .before .before .before .pre), atom-parts (c .before .before .before .before .before .before .before .before .before .before .before .args .a) (meant (c .before .before .before .before .before .before .before .before .before .before .before .args .v)), (c .before .before .before .before .before .before .before .before .put-number .ensures .end), (c .before .before .before .before .before .before .before .before .put-number .kept .0), (c .before .before .before .put .ensures .end), (c .before .before .before .put .kept .0))
+put-verdict-requires c κs =
+    let at-put = c .before .before .before in
+    let at-put-number = at-put .before .before .before .before .before in
+    let start = at-put-number .before .before .before in
+    let args = start .args in
+    omega
+    (arith, start .pre, atom-parts (args .a) (meant (args .v)), at-put-number .put-number .ensures .end, at-put-number .put-number .kept .0, at-put .put .ensures .end, (at-put .put .kept .0))
 
 slice-aggregate-put-2 : tie.Need-slice-aggregate-put-2
 slice-aggregate-put-2 c = search needs
 
 put-requires-2 : tie.Need-put-requires-2
-put-requires-2 c κs = omega (arith, (c .before .before .before .before .before .before .before .before .before .before .before .before .before .before .before .before .pre), atom-parts (c .before .before .before .before .before .before .before .before .before .before .before .before .before .before .before .before .args .a) (meant (c .before .before .before .before .before .before .before .before .before .before .before .before .before .before .before .before .args .v)), (c .before .before .before .before .before .before .before .before .before .before .before .before .before .put-number .ensures .end), (c .before .before .before .before .before .before .before .before .before .before .before .before .before .put-number .kept .0), (c .before .before .before .before .before .before .before .before .put .ensures .end), (c .before .before .before .before .before .before .before .before .put .kept .0), (c .before .before .before .before .put-verdict .ensures .end), (c .before .before .before .before .put-verdict .kept .0))
+put-requires-2 c κs =
+    let at-put-verdict = c .before .before .before .before in
+    let at-put = at-put-verdict .before .before .before .before in
+    let at-put-number = at-put .before .before .before .before .before in
+    let start = at-put-number .before .before .before in
+    let args = start .args in
+    omega
+    (arith, start .pre, atom-parts (args .a) (meant (args .v)), at-put-number .put-number .ensures .end, at-put-number .put-number .kept .0, at-put .put .ensures .end, at-put .put .kept .0, at-put-verdict .put-verdict .ensures .end, (at-put-verdict .put-verdict .kept .0))
 
 same-length : tie.Need-same-length
 same-length c = search needs
@@ -34,8 +50,17 @@ same-length c = search needs
 returns : tie.Need-returns
 unfolding atomLine
 returns c =
-    let room = room-left _ _ (decimal (c .before .before .before .before .before .before .before .before .before .before .before .before .before .before .before .before .before .before .before .args .a) ++ space ++ wordOf (meant (c .before .before .before .before .before .before .before .before .before .before .before .before .before .before .before .before .before .before .before .args .v))) newline (c .before .before .before .before .before .before .before .before .before .before .before .before .before .before .before .before .before .before .before .pre) in
-    put-put (c .before .before .before .before .before .before .before .before .before .before .before .before .before .before .before .before .before .before .before .pre) (put-put room (put-put (room-left _ _ (decimal (c .before .before .before .before .before .before .before .before .before .before .before .before .before .before .before .before .before .before .before .args .a) ++ space) (wordOf (meant (c .before .before .before .before .before .before .before .before .before .before .before .before .before .before .before .before .before .before .before .args .v))) room) (c .before .before .before .before .before .before .before .before .before .before .before .before .before .before .before .before .put-number .ensures) (c .before .before .before .before .before .before .before .before .before .before .before .put .ensures)) (c .before .before .before .before .before .before .before .put-verdict .ensures)) (c .before .before .put2 .ensures)
+    let at-put2 = c .before .before in
+    let at-put-verdict = at-put2 .before .before .before .before .before in
+    let at-put = at-put-verdict .before .before .before .before in
+    let at-put-number = at-put .before .before .before .before .before in
+    let start = at-put-number .before .before .before in
+    let pre = start .pre in
+    let args = start .args in
+    let room = room-left _ _ (decimal (args .a) ++ space ++ wordOf (meant (args .v))) newline (pre) in
+    put-put (pre)
+    (put-put room (put-put (room-left _ _ (decimal (args .a) ++ space) (wordOf (meant (args .v))) room) (at-put-number .put-number .ensures) (at-put .put .ensures)) (at-put-verdict .put-verdict .ensures))
+    (at-put2 .put2 .ensures)
 
 pub put-atom-spec : {M : Type 1} → statement M
 put-atom-spec =

@@ -16,20 +16,34 @@ put-requires : tie.Need-put-requires
 put-requires c κs = omega (arith, (c .before .before .before .pre), count-parts (c .before .before .before .args .atoms))
 
 put-number-requires : tie.Need-put-number-requires
-put-number-requires c κs = omega (arith, (c .before .before .before .before .before .before .before .pre), count-parts (c .before .before .before .before .before .before .before .args .atoms), (c .before .before .before .put .ensures .end), (c .before .before .before .put .kept .0))
+put-number-requires c κs =
+    let at-put = c .before .before .before in
+    let start = at-put .before .before .before .before in
+    omega (arith, (start .pre), count-parts (start .args .atoms), (at-put .put .ensures .end), (at-put .put .kept .0))
 
 slice-aggregate-put-2 : tie.Need-slice-aggregate-put-2
 slice-aggregate-put-2 c = search needs
 
 put-requires-2 : tie.Need-put-requires-2
-put-requires-2 c κs = omega (arith, (c .before .before .before .before .before .before .before .before .before .before .before .before .pre), count-parts (c .before .before .before .before .before .before .before .before .before .before .before .before .args .atoms), (c .before .before .before .before .before .before .before .before .put .ensures .end), (c .before .before .before .before .before .before .before .before .put .kept .0), (c .before .before .before .before .put-number .ensures .end), (c .before .before .before .before .put-number .kept .0))
+put-requires-2 c κs =
+    let at-put-number = c .before .before .before .before in
+    let at-put = at-put-number .before .before .before .before in
+    let start = at-put .before .before .before .before in
+    omega (arith, (start .pre), count-parts (start .args .atoms), (at-put .put .ensures .end), (at-put .put .kept .0), (at-put-number .put-number .ensures .end), (at-put-number .put-number .kept .0))
 
 same-length : tie.Need-same-length
 same-length c = search needs
 
 returns : tie.Need-returns
 unfolding countLine
-returns c = put-put (c .before .before .before .before .before .before .before .before .before .before .before .before .before .before .before .pre) (put-put (room-left _ _ (atomsWord ++ decimal (c .before .before .before .before .before .before .before .before .before .before .before .before .before .before .before .args .atoms)) newline (c .before .before .before .before .before .before .before .before .before .before .before .before .before .before .before .pre)) (c .before .before .before .before .before .before .before .before .before .before .before .put .ensures) (c .before .before .before .before .before .before .before .put-number .ensures)) (c .before .before .put2 .ensures)
+returns c =
+    let at-put2 = c .before .before in
+    let at-put-number = at-put2 .before .before .before .before .before in
+    let at-put = at-put-number .before .before .before .before in
+    let start = at-put .before .before .before .before in
+    let pre = start .pre in
+    put-put (pre) (put-put (room-left _ _ (atomsWord ++ decimal (start .args .atoms)) newline (pre)) (at-put .put .ensures) (at-put-number .put-number .ensures))
+    (at-put2 .put2 .ensures)
 
 pub put-count-spec : {M : Type 1} → statement M
 put-count-spec =

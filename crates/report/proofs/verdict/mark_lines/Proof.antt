@@ -39,7 +39,10 @@ loop-less : tie.Need-loop-less Inv-loop μ-loop
 loop-less c = search needs
 
 loop-again : tie.Need-loop-again Inv-loop μ-loop
-loop-again c = (omega arith, simp length-set (c .before .before .before .loop .inv .1), mark-next (c .before .before .before .loop .marks) (c .before .before .before .before .before .before .args .log .now) (c .wide .ensures) (omega arith) (c .before .before .before .loop .inv .1) (c .before .before .before .loop .inv .2))
+loop-again c =
+    let at-loop = c .before .before .before in
+    let start = at-loop .before .before .before in
+    (omega arith, simp length-set (at-loop .loop .inv .1), mark-next (at-loop .loop .marks) (start .args .log .now) (c .wide .ensures) (omega arith) (at-loop .loop .inv .1) (at-loop .loop .inv .2))
 
 same-length : tie.Need-same-length Inv-loop μ-loop
 same-length c = c .before .loop .inv .1 ∙ sym (clear-length (c .before .before .before .before .pre .clear))

@@ -50,7 +50,14 @@ first-fit-requires : tie.Need-first-fit-requires
 first-fit-requires c κs = search needs
 
 returns : tie.Need-returns
-returns c = c .first-fit .ensures ∙ sym (verdict-by (marked (c .before .before .before .before .before .before .args .marks .now)) (c .before .before .before .before .before .before .args .a) (sym (c .before .before .before .before .has-line .ensures)) (sym (c .before .before .before .has-line2 .ensures)) (sym (c .before .before .has-line3 .ensures)) (sym (c .before .has-line4 .ensures)))
+returns c =
+    let at-has-line3 = c .before .before in
+    let at-has-line2 = at-has-line3 .before in
+    let at-has-line = at-has-line2 .before in
+    let start = at-has-line .before .before in
+    let args = start .args in
+    c .first-fit .ensures ∙ sym
+    (verdict-by (marked (args .marks .now)) (args .a) (sym (at-has-line .has-line .ensures)) (sym (at-has-line2 .has-line2 .ensures)) (sym (at-has-line3 .has-line3 .ensures)) (sym (c .before .has-line4 .ensures)))
 
 pub verdict-of-spec : {M : Type 1} → statement M
 verdict-of-spec =

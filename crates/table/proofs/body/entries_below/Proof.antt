@@ -53,7 +53,10 @@ loop-less c = search needs
 
 -- src/body.rt:28:5
 loop-again : tie.Need-loop-again Inv-loop μ-loop
-loop-again c = (omega arith, counted-next _ _ (c .before .before .before .before .loop .inv .1) (c .add-if .ensures) (ap (λ e. ltb (e .rule) (c .before .before .before .before .before .before .before .args .r)) (c .before .before .read-entry .ensures)))
+loop-again c =
+    let at-loop = c .before .before .before .before in
+    let start = at-loop .before .before .before in
+    (omega arith, counted-next _ _ (at-loop .loop .inv .1) (c .add-if .ensures) (ap (λ e. ltb (e .rule) (start .args .r)) (c .before .before .read-entry .ensures)))
 
 -- src/body.rt:22:1
 returns : tie.Need-returns Inv-loop μ-loop

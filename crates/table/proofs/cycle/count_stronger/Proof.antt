@@ -39,7 +39,12 @@ slice-read-degree c = omega (arith, small c)
 
 add-degree : tie.Need-add-degree Inv-loop μ-loop
 unfolding theoryIn
-add-degree c = let h : lib.ListN.getD (c .before .before .before .before .loop .degree) (c .before .before .pair-within .result .weaker) 0 ≤ c .before .before .before .before .loop .i = tally-most _ _ _ _ (c .before .before .before .before .loop .inv .2) (small c) in omega (arith, c .before .before .before .before .before .before .before .before .pre .0 .few)
+add-degree c =
+    let at-pair-within = c .before .before in
+    let at-loop = at-pair-within .before .before in
+    let start = at-loop .before .before .before .before in
+    let h : lib.ListN.getD (at-loop .loop .degree) (at-pair-within .pair-within .result .weaker) 0 ≤ at-loop .loop .i = tally-most _ _ _ _ (at-loop .loop .inv .2)
+    (small c) in omega (arith, start .pre .0 .few)
 
 slice-write-degree : tie.Need-slice-write-degree Inv-loop μ-loop
 slice-write-degree c = omega (arith, small c)
@@ -52,7 +57,9 @@ loop-less c = search needs
 
 loop-again : tie.Need-loop-again Inv-loop μ-loop
 unfolding theoryIn
-loop-again c = (omega arith, simp length-set (c .before .before .before .before .loop .inv .1), tally-next _ _ _ _ (weak-read _ _ _ _ (c .before .before .pair-within .ensures)) (omega (arith, small c)) (c .before .before .before .before .loop .inv .2))
+loop-again c =
+    let at-loop = c .before .before .before .before in
+    (omega arith, simp length-set (at-loop .loop .inv .1), tally-next _ _ _ _ (weak-read _ _ _ _ (c .before .before .pair-within .ensures)) (omega (arith, small c)) (at-loop .loop .inv .2))
 
 same-length : tie.Need-same-length Inv-loop μ-loop
 same-length c = search needs

@@ -37,7 +37,9 @@ loop-less : tie.Need-loop-less Inv-loop μ-loop
 loop-less c = search needs
 
 loop-again : tie.Need-loop-again Inv-loop μ-loop
-loop-again c = (omega arith, omega arith, c .before .before .push-if .kept .0 ∙ c .before .before .before .before .before .before .loop .inv .2, zeros-next _ _ _ _ _ _ (c .before .before .before .before .before .before .loop .inv .3) (c .before .before .push-if .ensures))
+loop-again c =
+    let at-loop = c .before .before .before .before .before .before in
+    (omega arith, omega arith, c .before .before .push-if .kept .0 ∙ at-loop .loop .inv .2, zeros-next _ _ _ _ _ _ (at-loop .loop .inv .3) (c .before .before .push-if .ensures))
 
 same-length : tie.Need-same-length Inv-loop μ-loop
 same-length c = search needs

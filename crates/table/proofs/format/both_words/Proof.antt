@@ -21,7 +21,13 @@ words-within-requires : tie.Need-words-within-requires
 words-within-requires c κs = search needs
 
 returns : tie.Need-returns
-returns c = ((c .words-within .ensures .0) ∙ sym (left-in (c .before .before .before .before .before .args .table .now) (c .before .before .before .before .before .args .from) (c .before .before .before .before .before .args .n) (c .before .before .before .before .before .args .i) (c .before .before .if1 .taken)), (c .words-within .ensures .1) ∙ sym (right-in (c .before .before .before .before .before .args .table .now) (c .before .before .before .before .before .args .s) (c .before .before .before .before .before .args .from) (c .before .before .before .before .before .args .n) (c .before .before .before .before .before .args .i) (c .before .before .if1 .taken)))
+returns c =
+    let at-if1 = c .before .before in
+    let start = at-if1 .before .before .before in
+    let args = start .args in (
+      (c .words-within .ensures .0) ∙ sym (left-in (args .table .now) (args .from) (args .n) (args .i) (at-if1 .if1 .taken)),
+      (c .words-within .ensures .1) ∙ sym (right-in (args .table .now) (args .s) (args .from) (args .n) (args .i) (at-if1 .if1 .taken)),
+    )
 
 left-word-requires : tie.Need-left-word-requires
 left-word-requires c κs = search needs

@@ -31,7 +31,11 @@ pair-of-requires : tie.Need-pair-of-requires
 pair-of-requires c κs = search needs
 
 returns : tie.Need-returns
-returns c = λ k. record { stronger = ((c .pair-of .ensures .0) ∙ (c .before .words-within .ensures .0) ∙ sym (left-in (c .before .before .before .before .before .before .args .table .now) (pairsFrom (c .before .before .before .before .before .before .args .s)) ((c .before .before .before .before .before .before .args .s) .pairs) (c .before .before .before .before .before .before .args .i) (c .before .before .before .before .before .before .pre .0))) k; weaker = ((c .pair-of .ensures .1) ∙ (c .before .words-within .ensures .1) ∙ sym (right-in (c .before .before .before .before .before .before .args .table .now) (c .before .before .before .before .before .before .args .s) (pairsFrom (c .before .before .before .before .before .before .args .s)) ((c .before .before .before .before .before .before .args .s) .pairs) (c .before .before .before .before .before .before .args .i) (c .before .before .before .before .before .before .pre .0))) k }
+returns c =
+    let start = c .before .before .before .before .before .before in
+    let pre = start .pre in
+    let args = start .args in
+    λ k. record { stronger = ((c .pair-of .ensures .0) ∙ (c .before .words-within .ensures .0) ∙ sym (left-in (args .table .now) (pairsFrom (args .s)) ((args .s) .pairs) (args .i) (pre .0))) k; weaker = ((c .pair-of .ensures .1) ∙ (c .before .words-within .ensures .1) ∙ sym (right-in (args .table .now) (args .s) (pairsFrom (args .s)) ((args .s) .pairs) (args .i) (pre .0))) k }
 
 pub pair-within-spec : {M : Type 1} → statement M
 pair-within-spec =

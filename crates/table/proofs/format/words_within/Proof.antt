@@ -23,7 +23,9 @@ word-within-requires-2 : tie.Need-word-within-requires-2
 word-within-requires-2 c κs = search needs
 
 returns : tie.Need-returns
-returns c = ((c .before .word-within .ensures), right-at (c .before .before .before .before .args .table .now) (c .before .before .before .before .args .s) (c .before .before .before .before .args .j) _ _ (c .before .before .span .ensures) (c .word-within2 .ensures))
+returns c =
+    let start = c .before .before .before .before in
+    ((c .before .word-within .ensures), right-at (start .args .table .now) (start .args .s) (start .args .j) _ _ (c .before .before .span .ensures) (c .word-within2 .ensures))
 
 pub words-within-spec : {M : Type 1} → statement M
 words-within-spec =

@@ -21,7 +21,10 @@ either-requires-4 c κs = search needs
 
 returns : tie.Need-returns
 unfolding oversize
-returns c = ored (c .either4 .ensures) refl (ored (c .before .either3 .ensures) refl (ored (c .before .before .before .before .either2 .ensures) refl (c .before .before .before .before .before .before .either .ensures)))
+returns c =
+    let at-either2 = c .before .before .before .before in
+    let at-either = at-either2 .before .before in
+    ored (c .either4 .ensures) refl (ored (c .before .either3 .ensures) refl (ored (at-either2 .either2 .ensures) refl (at-either .either .ensures)))
 
 pub too-large-spec : {M : Type 1} → statement M
 too-large-spec =

@@ -38,10 +38,22 @@ loop-less : tie.Need-loop-less Inv-loop μ-loop
 loop-less c = search needs
 
 loop-again : tie.Need-loop-again Inv-loop μ-loop
-loop-again c = (omega arith, (c .before .before .before .loop .inv .1), scan-next (c .before .before .before .loop .i) (λ k. leb (c .before .before .before .before .before .args .limit) (word (c .before .before .before .before .before .args .table .now) ((c .before .before .before .before .before .args .base) + ((c .before .before .before .before .before .args .from) + k)))) (c .before .before .before .loop .inv .2) (ap (leb (c .before .before .before .before .before .args .limit)) (c .before .word-within .ensures)) (c .either .ensures))
+loop-again c =
+    let at-loop = c .before .before .before in
+    let start = at-loop .before .before in
+    let args = start .args in (
+      omega arith,
+      at-loop .loop .inv .1,
+      scan-next (at-loop .loop .i) (λ k. leb (args .limit) (word (args .table .now) ((args .base) + ((args .from) + k)))) (at-loop .loop .inv .2)
+          (ap (leb (args .limit)) (c .before .word-within .ensures)) (c .either .ensures),
+    )
 
 returns : tie.Need-returns Inv-loop μ-loop
-returns c = scan-end (c .before .loop .i) (c .before .before .before .args .n) (λ k. leb (c .before .before .before .args .limit) (word (c .before .before .before .args .table .now) ((c .before .before .before .args .base) + ((c .before .before .before .args .from) + k)))) (omega arith) (omega arith) (c .before .loop .inv .2)
+returns c =
+    let start = c .before .before .before in
+    let args = start .args in
+    scan-end (c .before .loop .i) (args .n) (λ k. leb (args .limit) (word (args .table .now) ((args .base) + ((args .from) + k)))) (omega arith) (omega arith)
+    (c .before .loop .inv .2)
 
 pub any-at-least-spec : {M : Type 1} → statement M
 any-at-least-spec =
