@@ -3,7 +3,8 @@
  * For every call: a length is a count of elements, not of bytes, except where the elements are bytes. A buffer may hold anything
  * before the call. No pointer may be NULL, and buffers may not overlap each other or the table. The functions keep no state between
  * calls, allocate nothing and call nothing of the C library but memory copies and fills; any number of threads may call them, each
- * with its own buffers. The table is only read. */
+ * with its own buffers. The table is only read. No function of the public crates (table, engine, report, console) requires anything
+ * besides that of its caller: what is wrong with a table or a buffer's length is answered by a number. */
 #ifndef FLYRULES_H
 #define FLYRULES_H
 

@@ -12,7 +12,18 @@ write-initial-requires : tie.Need-write-initial-requires
 write-initial-requires c κs = search needs
 
 work-requires : tie.Need-work-requires
-work-requires c κs = ((c .before .before .before .before .before .before .before .before .before .before .before .before .before .before .before .before .pre .0, c .before .before .before .before .before .before .write-initial .ensures .logged, c .before .before .before .before .before .before .write-initial .ensures .lines, λ x. c .before .before .before .before .before .before .write-initial .ensures .held x ∙ c .before .before .before .before .before .before .before .before .before .before .before .prepare .ensures .none x), (c .before .before .before .before .before .before .before .before .before .before .before .before .before .before .before .before .pre .3, c .before .before .before .before .before .before .before .before .before .before .before .before .before .before .before .before .pre .4))
+work-requires c κs =
+    let at-write-initial = c .before .before .before .before .before .before in let at-prepare = at-write-initial .before .before .before .before .before in
+    let start = at-prepare .before .before .before .before .before in
+    let pre = start .pre in (
+      (
+        pre .0,
+        at-write-initial .write-initial .ensures .logged,
+        at-write-initial .write-initial .ensures .lines,
+        λ x. at-write-initial .write-initial .ensures .held x ∙ at-prepare .prepare .ensures .none x,
+      ),
+      (pre .3, pre .4),
+    )
 
 same-length : tie.Need-same-length
 same-length c = search needs
@@ -21,7 +32,10 @@ same-length-2 : tie.Need-same-length-2
 same-length-2 c = search needs
 
 returns : tie.Need-returns
-returns c = worked-all _ _ _ (c .before .before .before .before .before .before .before .before .before .before .before .before .before .before .before .before .before .before .before .before .before .pre .3) (c .before .before .before .before .before .before .before .before .before .before .before .before .before .before .before .before .before .before .before .before .before .pre .4) (c .before .before .before .before .before .before .before .before .before .before .before .before .before .before .before .before .prepare .ensures) (c .before .before .before .before .before .before .before .before .before .before .before .write-initial .ensures) (c .before .before .before .before .work .ensures)
+returns c =
+    let at-work = c .before .before .before .before in let at-write-initial = at-work .before .before .before .before .before .before .before in
+    let at-prepare = at-write-initial .before .before .before .before .before in let start = at-prepare .before .before .before .before .before in
+    worked-all _ _ _ (start .pre .3) (start .pre .4) (at-prepare .prepare .ensures) (at-write-initial .write-initial .ensures) (at-work .work .ensures)
 
 pub run-started-spec : {M : Type 1} → statement M
 run-started-spec =

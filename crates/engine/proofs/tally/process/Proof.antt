@@ -14,8 +14,7 @@ slice-read-x c = search needs
 
 uses-of-requires : tie.Need-uses-of-requires
 uses-of-requires c κs =
-    let start = c .before .before .before .before .before in
-    let p = start .pre in
+    let start = c .before .before .before .before .before in let p = start .pre in
     (p .0, p .1 .logged .ready, omega (arith, atoms-in (start .args .table .now) (start .args .s), p .1 .small))
 
 cost-requires : tie.Need-cost-requires

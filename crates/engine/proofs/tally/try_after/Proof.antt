@@ -9,7 +9,9 @@ add-requires : tie.Need-add-requires
 add-requires c κs = search needs
 
 try-both-requires : tie.Need-try-both-requires
-try-both-requires c κs = ((c .before .before .before .before .before .before .before .before .before .pre .0 .0), omega arith, logged-added (c .before .before .before .before .before .before .before .before .before .pre .0 .1) (c .before .before .before .before .add .ensures))
+try-both-requires c κs =
+    let at-add = c .before .before .before .before in let start = at-add .before .before .before .before .before in
+    ((start .pre .0 .0), omega arith, logged-added (start .pre .0 .1) (at-add .add .ensures))
 
 try-uses-requires : tie.Need-try-uses-requires
 try-uses-requires c κs =
@@ -23,7 +25,10 @@ same-length-2 : tie.Need-same-length-2
 same-length-2 c = search needs
 
 returns : tie.Need-returns
-returns c = processed _ (c .before .before .before .before .before .before .before .before .before .before .before .before .before .before .before .before .add .ensures) (c .before .before .before .before .before .before .before .before .before .before .before .try-both .ensures) (c .before .before .before .before .try-uses .ensures)
+returns c =
+    let at-try-uses = c .before .before .before .before in let at-try-both = at-try-uses .before .before .before .before .before .before .before in
+    let at-add = at-try-both .before .before .before .before .before in
+    processed _ (at-add .add .ensures) (at-try-both .try-both .ensures) (at-try-uses .try-uses .ensures)
 
 pub try-after-spec : {M : Type 1} → statement M
 try-after-spec =

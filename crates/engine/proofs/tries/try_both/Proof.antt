@@ -21,8 +21,7 @@ same-length-2 c = search needs
 
 returns : tie.Need-returns
 returns c =
-    let at-try-literal2 = c .before .before .before .before in
-    let at-try-literal = at-try-literal2 .before .before .before .before .before .before .before in
+    let at-try-literal2 = c .before .before .before .before in let at-try-literal = at-try-literal2 .before .before .before .before .before .before .before in
     let at-complement = at-try-literal .before .before .before in
     tried-both _ _ (at-complement .complement .ensures) (at-try-literal .try-literal .ensures) (at-try-literal2 .try-literal2 .ensures)
 

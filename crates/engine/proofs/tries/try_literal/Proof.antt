@@ -18,8 +18,7 @@ same-length-2 c = search needs
 
 returns : tie.Need-returns
 returns c =
-    let at-try-opposites2 = c .before .before .before .before in
-    let at-try-opposites = at-try-opposites2 .before .before .before .before .before .before .before in
+    let at-try-opposites2 = c .before .before .before .before in let at-try-opposites = at-try-opposites2 .before .before .before .before .before .before .before in
     tried-tags _ (at-try-opposites .try-opposites .ensures) (at-try-opposites2 .try-opposites2 .ensures)
 
 pub try-literal-spec : {M : Type 1} → statement M

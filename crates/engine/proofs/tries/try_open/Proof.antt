@@ -32,8 +32,7 @@ write-requires c κs =
 append-requires : tie.Need-append-requires
 append-requires c κs =
     let e = c .before .before .before .before .before in
-    let start = e .before .before .before .before .before .before in
-    let p = start .pre in
+    let start = e .before .before .before .before .before .before in let p = start .pre in
     let r = room-for _ _ (p .0) _ _ (p .1) (p .2) _ _ _ (p .3) (p .4) _ (e .before .follows .ensures ∙ infers-at _ _ _ _ (p .2)) (not-false _ (e .if1 .left)) in
     (r .0, omega (arith, r .1))
 
@@ -45,12 +44,9 @@ same-length-3 c = search needs
 
 returns-2 : tie.Need-returns-2
 returns-2 c =
-    let at-append = c .before .before in
-    let at-write = at-append .before .before .before .before in
-    let at-before = at-write .before in
+    let at-append = c .before .before in let at-write = at-append .before .before .before .before in let at-before = at-write .before in
     let e = at-before .before in
-    let start = e .before .before .before .before .before .before in
-    let p = start .pre in
+    let start = e .before .before .before .before .before .before in let p = start .pre in
     tried-appended
     (writes-line _ _ (p .0) _ _ (p .1) (p .2) _ _ _ (p .3) (p .4) _ (e .before .follows .ensures ∙ infers-at _ _ _ _ (p .2)) (not-false _ (e .if1 .left)) _ (at-write .write .ensures))
     (at-append .append .ensures)

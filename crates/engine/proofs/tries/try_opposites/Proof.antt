@@ -20,9 +20,7 @@ returns c =
 
 try-open-requires : tie.Need-try-open-requires
 try-open-requires c κs =
-    let at-if1 = c .before .before in
-    let at-either-written = at-if1 .before in
-    let start = at-either-written .before .before .before .before .before in
+    let at-if1 = c .before .before in let at-either-written = at-if1 .before in let start = at-either-written .before .before .before .before .before in
     let pre = start .pre in (
       pre .0,
       pre .1,
@@ -39,8 +37,7 @@ same-length-3 c = search needs
 
 returns-2 : tie.Need-returns-2
 returns-2 c =
-    let at-try-open = c .before .before .before .before .before in
-    let start = at-try-open .before .before .before .before .before .before .before .before .before in
+    let at-try-open = c .before .before .before .before .before in let start = at-try-open .before .before .before .before .before .before .before .before .before in
     first-written _ _ (start .pre .0) _ _ (start .pre .1) (start .pre .2) (start .pre .3) _ _ _ (start .pre .4) _ _ _ (at-try-open .try-open .ensures) (c .if2 .taken)
 
 add-try-open : tie.Need-add-try-open
@@ -48,11 +45,8 @@ add-try-open c = search needs
 
 try-open-requires-2 : tie.Need-try-open-requires-2
 try-open-requires-2 c κs =
-    let at-if2 = c .before .before in
-    let at-try-open = at-if2 .before .before .before .before .before in
-    let at-if1 = at-try-open .before .before .before in
-    let at-either-written = at-if1 .before in
-    let start = at-either-written .before .before .before .before .before in
+    let at-if2 = c .before .before in let at-try-open = at-if2 .before .before .before .before .before in let at-if1 = at-try-open .before .before .before in
+    let at-either-written = at-if1 .before in let start = at-either-written .before .before .before .before .before in
     let pre = start .pre in (
       pre .0,
       pre .1,

@@ -38,12 +38,8 @@ same-length-3 c = search needs
 
 returns-2 : tie.Need-returns-2
 returns-2 c =
-    let at-try-both = c .before .before .before .before in
-    let at-head-of = at-try-both .before .before .before in
-    let at-if1 = at-head-of .before .before in
-    let at-visits = at-if1 .before in
-    let at-is-strict = at-visits .before in
-    let start = at-is-strict .before .before .before .before .before in
+    let at-try-both = c .before .before .before .before in let at-head-of = at-try-both .before .before .before in let at-if1 = at-head-of .before .before in
+    let at-visits = at-if1 .before in let at-is-strict = at-visits .before in let start = at-is-strict .before .before .before .before .before in
     rule-visited _ (start .args .definite) _ _ _ (at-visits .visits .ensures) (at-is-strict .is-strict .ensures) (not-false _ (at-if1 .if1 .left)) _
     (at-head-of .head-of .ensures) (at-try-both .try-both .ensures)
 

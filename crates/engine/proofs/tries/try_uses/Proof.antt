@@ -27,8 +27,7 @@ user-at-requires c κs =
 try-rule-requires : tie.Need-try-rule-requires Inv-loop μ-loop
 try-rule-requires c κs =
     let l = c .before .before .before .before .before in
-    let start = l .before .before .before .before in
-    let p = start .pre in
+    let start = l .before .before .before .before in let p = start .pre in
     (p .0, omega (arith, rules-in (start .args .table .now) (start .args .s), use-below _ _ _ _ _ _ (p .3) _ _ _ _ (l .loop .inv) (c .before .before .before .before .loop-test .taken) _ (c .before .before .user-at .ensures)), l .loop .inv .tried .logged)
 
 add-k : tie.Need-add-k Inv-loop μ-loop

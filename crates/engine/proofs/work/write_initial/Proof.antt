@@ -39,8 +39,7 @@ loop-less c = search needs
 
 loop-again : tie.Need-loop-again Inv-loop μ-loop
 loop-again c =
-    let at-try-literal = c .before .before .before .before in
-    let at-loop = at-try-literal .before .before .before .before in
+    let at-try-literal = c .before .before .before .before in let at-loop = at-try-literal .before .before .before .before in
     let start = at-loop .before .before .before .before .before in
     (at-loop .loop .inv .0, omega arith, opening-next _ _ _ (start .pre .2) _ (at-loop .loop .inv .2) (at-try-literal .try-literal .ensures))
 

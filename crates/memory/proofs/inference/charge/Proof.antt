@@ -29,8 +29,7 @@ returns c = (read-definite (view (c .before .before .before .before .args .mem .
 
 returns-2 : tie.Need-returns-2
 returns-2 c =
-    let at-if1 = c .before .before .before in
-    let start = at-if1 .before .before in
+    let at-if1 = c .before .before .before in let start = at-if1 .before .before in
     (read-defeasible (view (start .args .mem .now)) _ _ (at-if1 .if1 .left) (c .before .before .decides .ensures) (c .before .load2 .ensures) (c .weigh2 .ensures .0), omega arith)
 
 pub charge-spec : {M : Type 1} → statement M

@@ -18,9 +18,7 @@ abbrev μ-loop : tie.MeasureT-loop
 
 loop-holds : tie.Need-loop-holds Inv-loop μ-loop
 loop-holds c =
-    let start = c .before .before in
-    let pre = start .pre in
-    let args = start .args in
+    let start = c .before .before in let pre = start .pre in let args = start .args in
     let w = uses-within _ _ _ _ (pre .0) (pre .1) (pre .2) (pre .4) in
     (omega arith, w .0, w .1, cost-none (λ i. chargeBy (view (args .mem .now)) ((args .x) % tagCount) (useAt (args .mem .now) i)) _, omega arith)
 
@@ -32,9 +30,7 @@ cast-charge c = search needs
 
 charge-requires : tie.Need-charge-requires Inv-loop μ-loop
 charge-requires c κs =
-    let at-loop = c .before .before in
-    let start = at-loop .before .before .before in
-    let pre = start .pre in
+    let at-loop = c .before .before in let start = at-loop .before .before .before in let pre = start .pre in
     (omega (arith, rule-used _ _ _ _ (pre .0) (pre .1) (pre .2) (pre .4) (at-loop .loop .k) (at-loop .loop .inv .0) (c .before .loop-test .taken)), (pre .1 .invariant .room))
 
 add-sum : tie.Need-add-sum Inv-loop μ-loop
@@ -48,8 +44,7 @@ loop-less c = search needs
 
 loop-again : tie.Need-loop-again Inv-loop μ-loop
 loop-again c =
-    let at-loop = c .before .before .before in
-    let start = at-loop .before .before .before in
+    let at-loop = c .before .before .before in let start = at-loop .before .before .before in
     let args = start .args in (
       omega arith,
       omega arith,

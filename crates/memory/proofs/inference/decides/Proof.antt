@@ -25,9 +25,7 @@ cast-size c = search needs
 
 returns-2 : tie.Need-returns-2
 returns-2 c =
-    let at-if1 = c .before .before .before in
-    let at-load = at-if1 .before in
-    let start = at-load .before .before in
+    let at-if1 = c .before .before .before in let at-load = at-if1 .before in let start = at-load .before .before in
     decided-by-one (view (start .args .mem .now)) (start .args .t) _ (at-load .load .ensures) (at-if1 .if1 .left) (c .before .before .load2 .ensures) (c .before .load3 .ensures) (c .if2 .taken)
 
 add-result : tie.Need-add-result
@@ -35,9 +33,7 @@ add-result c = search needs
 
 returns-3 : tie.Need-returns-3
 returns-3 c =
-    let at-if1 = c .before .before .before in
-    let at-load = at-if1 .before in
-    let start = at-load .before .before in
+    let at-if1 = c .before .before .before in let at-load = at-if1 .before in let start = at-load .before .before in
     decided-by-all (view (start .args .mem .now)) (start .args .t) _ (at-load .load .ensures) (at-if1 .if1 .left) (c .before .before .load2 .ensures) (c .before .load3 .ensures) (c .if2 .left)
 
 pub decides-spec : {M : Type 1} → statement M

@@ -17,8 +17,7 @@ load-requires c κs = search needs
 
 returns-2 : tie.Need-returns-2
 returns-2 c =
-    let at-is-processed = c .before .before .before in
-    let start = at-is-processed .before .before in
+    let at-is-processed = c .before .before .before in let start = at-is-processed .before .before in
     defeasibly-unsupported (view (start .args .mem .now)) _ (at-is-processed .is-processed .ensures) (c .before .before .if1 .left) (c .before .load .ensures) (c .if2 .taken)
 
 other-requires : tie.Need-other-requires
@@ -29,12 +28,8 @@ is-processed-requires-2 c κs = search needs
 
 returns-3 : tie.Need-returns-3
 returns-3 c =
-    let at-other = c .before .before in
-    let at-if2 = at-other .before in
-    let at-load = at-if2 .before in
-    let at-if1 = at-load .before in
-    let at-is-processed = at-if1 .before in
-    let start = at-is-processed .before .before in
+    let at-other = c .before .before in let at-if2 = at-other .before in let at-load = at-if2 .before in let at-if1 = at-load .before in
+    let at-is-processed = at-if1 .before in let start = at-is-processed .before .before in
     defeasibly-opposed (view (start .args .mem .now)) _ (at-is-processed .is-processed .ensures) (at-if1 .if1 .left) (at-load .load .ensures) (at-if2 .if2 .left)
     (at-other .other .ensures) (c .before .is-processed2 .ensures) (not-true _ (c .if3 .taken))
 
@@ -46,14 +41,8 @@ load-requires-3 c κs = search needs
 
 returns-4 : tie.Need-returns-4
 returns-4 c =
-    let at-if3 = c .before .before in
-    let at-is-processed2 = at-if3 .before in
-    let at-other = at-is-processed2 .before in
-    let at-if2 = at-other .before in
-    let at-load = at-if2 .before in
-    let at-if1 = at-load .before in
-    let at-is-processed = at-if1 .before in
-    let start = at-is-processed .before .before in
+    let at-if3 = c .before .before in let at-is-processed2 = at-if3 .before in let at-other = at-is-processed2 .before in let at-if2 = at-other .before in
+    let at-load = at-if2 .before in let at-if1 = at-load .before in let at-is-processed = at-if1 .before in let start = at-is-processed .before .before in
     defeasibly-countered (view (start .args .mem .now)) _ (at-is-processed .is-processed .ensures) (at-if1 .if1 .left) (at-load .load .ensures) (at-if2 .if2 .left)
     (at-other .other .ensures) (at-is-processed2 .is-processed2 .ensures) (not-false _ (at-if3 .if3 .left)) (c .before .load2 .ensures) (c .load3 .ensures)
 

@@ -52,8 +52,7 @@ returns-3 c =
 returns-4 : tie.Need-returns-4
 unfolding systemOf
 returns-4 c =
-    let start = c .before .before .before .before in
-    let pre = start .pre in
+    let start = c .before .before .before .before in let pre = start .pre in
     follows-3 _ _ _ _ (pre .0) (pre .1) (eighth _ _ (pre .2)) (c .before .match .rest .0 .0 .1) (c .before .match .rest .0 .1) (c .before .match .rest .1)
     (mod-lt _ (omega arith)) (c .not-defeasibly .ensures)
 

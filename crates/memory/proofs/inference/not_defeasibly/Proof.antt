@@ -20,10 +20,7 @@ load-requires-2 c κs = search needs
 
 returns-2 : tie.Need-returns-2
 returns-2 c =
-    let at-load = c .before .before in
-    let at-if1 = at-load .before in
-    let at-is-processed = at-if1 .before in
-    let start = at-is-processed .before .before in
+    let at-load = c .before .before in let at-if1 = at-load .before in let at-is-processed = at-if1 .before in let start = at-is-processed .before .before in
     not-defeasibly-unsupported (view (start .args .mem .now)) _ (at-is-processed .is-processed .ensures) (not-false _ (at-if1 .if1 .left)) (at-load .load .ensures)
     (c .before .load2 .ensures) (c .if2 .taken)
 
@@ -35,13 +32,8 @@ is-processed-requires-2 c κs = search needs
 
 returns-3 : tie.Need-returns-3
 returns-3 c =
-    let at-other = c .before .before in
-    let at-if2 = at-other .before in
-    let at-load2 = at-if2 .before in
-    let at-load = at-load2 .before in
-    let at-if1 = at-load .before in
-    let at-is-processed = at-if1 .before in
-    let start = at-is-processed .before .before in
+    let at-other = c .before .before in let at-if2 = at-other .before in let at-load2 = at-if2 .before in let at-load = at-load2 .before in
+    let at-if1 = at-load .before in let at-is-processed = at-if1 .before in let start = at-is-processed .before .before in
     not-defeasibly-refuted (view (start .args .mem .now)) _ (at-is-processed .is-processed .ensures) (not-false _ (at-if1 .if1 .left)) (at-load .load .ensures)
     (at-load2 .load2 .ensures) (at-if2 .if2 .left) (at-other .other .ensures) (c .before .is-processed2 .ensures) (c .if3 .taken)
 
@@ -50,14 +42,8 @@ load-requires-3 c κs = search needs
 
 returns-4 : tie.Need-returns-4
 returns-4 c =
-    let at-is-processed2 = c .before .before in
-    let at-other = at-is-processed2 .before in
-    let at-if2 = at-other .before in
-    let at-load2 = at-if2 .before in
-    let at-load = at-load2 .before in
-    let at-if1 = at-load .before in
-    let at-is-processed = at-if1 .before in
-    let start = at-is-processed .before .before in
+    let at-is-processed2 = c .before .before in let at-other = at-is-processed2 .before in let at-if2 = at-other .before in let at-load2 = at-if2 .before in
+    let at-load = at-load2 .before in let at-if1 = at-load .before in let at-is-processed = at-if1 .before in let start = at-is-processed .before .before in
     not-defeasibly-beaten (view (start .args .mem .now)) _ (at-is-processed .is-processed .ensures) (not-false _ (at-if1 .if1 .left)) (at-load .load .ensures)
     (at-load2 .load2 .ensures) (at-if2 .if2 .left) (at-other .other .ensures) (at-is-processed2 .is-processed2 .ensures) (c .before .if3 .left) (c .load3 .ensures)
 

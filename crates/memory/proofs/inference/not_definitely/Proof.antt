@@ -19,8 +19,7 @@ both-requires c κs = search needs
 
 returns : tie.Need-returns
 returns c =
-    let at-load = c .before .before .before in
-    let start = at-load .before .before in
+    let at-load = c .before .before .before in let start = at-load .before .before in
     read-not-definitely (view (start .args .mem .now)) _ (at-load .load .ensures) (c .before .before .load2 .ensures) (c .before .load3 .ensures) (c .both .ensures)
 
 pub not-definitely-spec : {M : Type 1} → statement M

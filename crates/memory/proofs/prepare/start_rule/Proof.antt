@@ -12,8 +12,7 @@ visit-definite-requires c κs = definite-asks _ _ _ _ _ (first-asks _ _ _ (c .be
 
 reaches-requires : tie.Need-reaches-requires
 reaches-requires c κs =
-    let at-visit-definite = c .before .before .before in
-    let start = at-visit-definite .before .before .before .before in
+    let at-visit-definite = c .before .before .before in let start = at-visit-definite .before .before .before .before in
     reaches-asks _ _ _ _ _ (second-asks _ _ _ (start .pre .0) (start .pre .1) (start .pre .2) (at-visit-definite .visit-definite .ensures))
 
 same-length : tie.Need-same-length
@@ -21,19 +20,15 @@ same-length c = search needs
 
 returns : tie.Need-returns
 returns c =
-    let at-reaches = c .before .before .before in
-    let at-visit-definite = at-reaches .before .before .before .before in
-    let start = at-visit-definite .before .before .before .before in
-    let pre = start .pre in
+    let at-reaches = c .before .before .before in let at-visit-definite = at-reaches .before .before .before .before in
+    let start = at-visit-definite .before .before .before .before in let pre = start .pre in
     started-next _ _ _ (pre .1) (at-visit-definite .visit-definite .ensures)
     (visit-undecided _ _ _ _ _ (second-asks _ _ _ (pre .0) (pre .1) (pre .2) (at-visit-definite .visit-definite .ensures)) _ (at-reaches .reaches .ensures) (not-true _ (c .if1 .taken)))
 
 decide-requires : tie.Need-decide-requires
 decide-requires c κs =
-    let at-reaches = c .before .before .before .before in
-    let at-visit-definite = at-reaches .before .before .before .before in
-    let start = at-visit-definite .before .before .before .before in
-    let pre = start .pre in
+    let at-reaches = c .before .before .before .before in let at-visit-definite = at-reaches .before .before .before .before in
+    let start = at-visit-definite .before .before .before .before in let pre = start .pre in
     decide-asks _ _ _ _ _ (second-asks _ _ _ (pre .0) (pre .1) (pre .2) (at-visit-definite .visit-definite .ensures)) _ (at-reaches .reaches .ensures)
     (not-false _ (c .before .if1 .left)) (omega arith)
 
@@ -42,11 +37,8 @@ same-length-2 c = search needs
 
 returns-2 : tie.Need-returns-2
 returns-2 c =
-    let at-decide = c .before .before in
-    let at-reaches = at-decide .before .before .before .before .before in
-    let at-visit-definite = at-reaches .before .before .before .before in
-    let start = at-visit-definite .before .before .before .before in
-    let pre = start .pre in
+    let at-decide = c .before .before in let at-reaches = at-decide .before .before .before .before .before in
+    let at-visit-definite = at-reaches .before .before .before .before in let start = at-visit-definite .before .before .before .before in let pre = start .pre in
     started-next _ _ _ (pre .1) (at-visit-definite .visit-definite .ensures)
     (visit-decided _ _ _ _ _ (second-asks _ _ _ (pre .0) (pre .1) (pre .2) (at-visit-definite .visit-definite .ensures)) _ (at-reaches .reaches .ensures) _ (at-decide .decide .ensures))
 

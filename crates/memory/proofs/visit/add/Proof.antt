@@ -16,8 +16,7 @@ wide-requires-2 c κs = search needs
 
 store-requires : tie.Need-store-requires
 store-requires c κs =
-    let at-visit-uses = c .before .before .before .before .before in
-    let start = at-visit-uses .before .before .before .before in
+    let at-visit-uses = c .before .before .before .before .before in let start = at-visit-uses .before .before .before .before in
     mark-asks _ _ _ _ _ _ refl refl (start .pre .0) _ _ _ (c .before .wide .ensures) (c .wide2 .ensures) (at-visit-uses .visit-uses .ensures)
 
 same-length : tie.Need-same-length
@@ -25,9 +24,7 @@ same-length c = search needs
 
 returns : tie.Need-returns
 returns c =
-    let at-wide2 = c .before .before .before in
-    let at-wide = at-wide2 .before in
-    let at-visit-uses = at-wide .before .before .before .before in
+    let at-wide2 = c .before .before .before in let at-wide = at-wide2 .before in let at-visit-uses = at-wide .before .before .before .before in
     let start = at-visit-uses .before .before .before .before in
     added-of _ _ _ _ _ _ refl refl (start .pre .0) _ _ _ _ (at-wide .wide .ensures) (at-wide2 .wide2 .ensures) (at-visit-uses .visit-uses .ensures) (c .before .before .store .ensures)
 

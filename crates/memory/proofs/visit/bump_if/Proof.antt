@@ -12,8 +12,7 @@ same-length c = search needs
 
 returns : tie.Need-returns
 returns c =
-    let at-if1 = c .before .before .before .before in
-    let start = at-if1 .before .before in
+    let at-if1 = c .before .before .before .before in let start = at-if1 .before .before in
     raised-yes _ _ _ _ _ (at-if1 .if1 .taken) (start .pre .0) (start .pre .1) (start .pre .2) (c .before .before .bump .ensures)
 
 returns-2 : tie.Need-returns-2

@@ -28,9 +28,7 @@ both-requires c κs = search needs
 
 bump-if-requires-2 : tie.Need-bump-if-requires-2
 bump-if-requires-2 c κs =
-    let at-bump-if = c .before .before .before .before .before .before in
-    let at-wide = at-bump-if .before .before in
-    let at-load = at-wide .before in
+    let at-bump-if = c .before .before .before .before .before .before in let at-wide = at-bump-if .before .before in let at-load = at-wide .before in
     let start = at-load .before .before .before in
     next-small _ _ _ _ _ _ (start .pre .0 .2) (start .pre .0 .3) (at-wide .wide .ensures ∙ at-load .load .ensures) (at-bump-if .bump-if .ensures) (start .pre .1)
 
@@ -39,12 +37,8 @@ same-length c = search needs
 
 returns : tie.Need-returns
 returns c =
-    let at-bump-if2 = c .before .before in
-    let at-both = at-bump-if2 .before in
-    let at-reached-by-rival = at-both .before .before in
-    let at-bump-if = at-reached-by-rival .before .before .before .before in
-    let at-wide = at-bump-if .before .before in
-    let at-load = at-wide .before in
+    let at-bump-if2 = c .before .before in let at-both = at-bump-if2 .before in let at-reached-by-rival = at-both .before .before in
+    let at-bump-if = at-reached-by-rival .before .before .before .before in let at-wide = at-bump-if .before .before in let at-load = at-wide .before in
     notified-of _ _ _ _ _ _ _ _ _ _ (at-wide .wide .ensures ∙ at-load .load .ensures) refl (at-reached-by-rival .reached-by-rival .ensures) (at-both .both .ensures)
     (at-bump-if .bump-if .ensures) (at-bump-if2 .bump-if2 .ensures)
 

@@ -33,9 +33,7 @@ returns c = by-rival-two _ _ _ (c .before .before .before .if1 .taken) (c .befor
 
 returns-2 : tie.Need-returns-2
 returns-2 c =
-    let at-load4 = c .before .before .before in
-    let at-load3 = at-load4 .before in
-    let at-if1 = at-load3 .before in
+    let at-load4 = c .before .before .before in let at-load3 = at-load4 .before in let at-if1 = at-load3 .before in
     by-rival-three _ _ _ (at-if1 .if1 .left) (at-load3 .load3 .ensures) (at-load4 .load4 .ensures) (c .before .before .load5 .ensures) (c .before .load6 .ensures) (c .both2 .ensures)
 
 pub reached-by-rival-spec : {M : Type 1} → statement M

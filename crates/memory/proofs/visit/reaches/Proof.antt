@@ -27,11 +27,8 @@ same-length c = search needs
 
 returns : tie.Need-returns
 returns c =
-    let at-bump = c .before .before .before .before .before in
-    let at-load = at-bump .before .before in
-    let start = at-load .before .before .before in
-    let pre = start .pre in
-    let args = start .args in
+    let at-bump = c .before .before .before .before .before in let at-load = at-bump .before .before in let start = at-load .before .before .before in
+    let pre = start .pre in let args = start .args in
     just-reached-read (args .mem .now) (args .r) (args .t) _ (pre .0) (pre .1) (pre .2) (at-bump .bump .ensures) (at-load .load .ensures) (c .before .load2 .ensures)
     (c .threshold .ensures)
 

@@ -25,9 +25,7 @@ returns-2 c = visit-undecided _ _ _ _ _ (c .before .before .before .before .befo
 
 decide-requires : tie.Need-decide-requires
 decide-requires c κs =
-    let at-reaches = c .before .before .before .before in
-    let at-if1 = at-reaches .before .before in
-    let start = at-if1 .before .before .before in
+    let at-reaches = c .before .before .before .before in let at-if1 = at-reaches .before .before in let start = at-if1 .before .before .before in
     decide-asks _ _ _ _ _ (start .pre) _ (at-reaches .reaches .ensures) (not-false _ (c .before .if2 .left)) (at-if1 .if1 .left)
 
 same-length-3 : tie.Need-same-length-3
@@ -35,8 +33,7 @@ same-length-3 c = search needs
 
 returns-3 : tie.Need-returns-3
 returns-3 c =
-    let at-reaches = c .before .before .before .before .before .before .before in
-    let start = at-reaches .before .before .before .before .before in
+    let at-reaches = c .before .before .before .before .before .before .before in let start = at-reaches .before .before .before .before .before in
     visit-decided _ _ _ _ _ (start .pre) _ (at-reaches .reaches .ensures) _ (c .before .before .decide .ensures)
 
 pub visit-spec : {M : Type 1} → statement M

@@ -29,11 +29,8 @@ wide-requires-2 c κs = search needs
 
 visit-requires : tie.Need-visit-requires Inv-loop μ-loop
 visit-requires c κs =
-    let at-load-use = c .before .before .before in
-    let at-loop-test = at-load-use .before .before in
-    let at-loop = at-loop-test .before in
-    let start = at-loop .before .before .before in
-    let pre = start .pre in
+    let at-load-use = c .before .before .before in let at-loop-test = at-load-use .before .before in let at-loop = at-loop-test .before in
+    let start = at-loop .before .before .before in let pre = start .pre in
     asks-wide _ _ _ (c .before .wide .ensures) (c .wide2 .ensures)
     (visit-asks _ _ _ _ _ (pre .0) (pre .1 .2) _ _ (at-loop .loop .inv) (at-loop-test .loop-test .taken) _ (at-load-use .load-use .ensures))
 
@@ -45,14 +42,8 @@ loop-less c = search needs
 
 loop-again : tie.Need-loop-again Inv-loop μ-loop
 loop-again c =
-    let at-visit = c .before .before in
-    let at-wide2 = at-visit .before in
-    let at-wide = at-wide2 .before in
-    let at-load-use = at-wide .before .before in
-    let at-loop-test = at-load-use .before .before in
-    let at-loop = at-loop-test .before in
-    let start = at-loop .before .before .before in
-    let pre = start .pre in
+    let at-visit = c .before .before in let at-wide2 = at-visit .before in let at-wide = at-wide2 .before in let at-load-use = at-wide .before .before in
+    let at-loop-test = at-load-use .before .before in let at-loop = at-loop-test .before in let start = at-loop .before .before .before in let pre = start .pre in
     uses-next-of _ _ _ _ _ (pre .0) (pre .1 .2) _ _ (at-loop .loop .inv) (at-loop-test .loop-test .taken) _ (at-load-use .load-use .ensures) _
     (visit-wide _ _ _ (at-wide .wide .ensures) (at-wide2 .wide2 .ensures) _ (at-visit .visit .ensures))
 

@@ -50,8 +50,7 @@ same-length c = search needs
 returns : tie.Need-returns Inv-loop μ-loop
 unfolding theoryIn
 returns c =
-    let at-read-pair = c .before .before in
-    let at-loop = at-read-pair .before .before in
+    let at-read-pair = c .before .before in let at-loop = at-read-pair .before .before in
     let start = at-loop .before .before .before .before .before .before .before .before .before .before .before in (
       at-loop .loop .inv .unchanged,
       walk-end _ (start .pre .0 .0) _ _ _ _ _ (at-loop .loop .inv)
@@ -64,14 +63,9 @@ wide-requires-5 c κs = search needs
 notify-requires : tie.Need-notify-requires Inv-loop μ-loop
 unfolding theoryIn
 notify-requires c κs =
-    let at-if1 = c .before .before in
-    let at-wide4 = at-if1 .before in
-    let at-read-pair = at-wide4 .before in
-    let at-loop-test = at-read-pair .before in
-    let at-loop = at-loop-test .before in
-    let at-wide = at-loop .before .before .before .before .before .before .before .before in
-    let start = at-wide .before .before .before in
-    let pre = start .pre in
+    let at-if1 = c .before .before in let at-wide4 = at-if1 .before in let at-read-pair = at-wide4 .before in let at-loop-test = at-read-pair .before in
+    let at-loop = at-loop-test .before in let at-wide = at-loop .before .before .before .before .before .before .before .before in
+    let start = at-wide .before .before .before in let pre = start .pre in
     turn-asks _ (pre .0 .0) _ _ _ _ _ (at-loop .loop .inv) _ (pre .0 .2) (pre .0 .3) (omega (arith, at-loop-test .loop-test .taken, at-wide .wide .ensures))
     (sym (strong-read _ _ _ _ (at-read-pair .read-pair .ensures)) ∙ sym (at-wide4 .wide4 .ensures) ∙ at-if1 .if1 .left)
     (c .wide5 .ensures ∙ weak-read _ _ _ _ (at-read-pair .read-pair .ensures))
@@ -85,19 +79,10 @@ loop-less c = search needs
 loop-again : tie.Need-loop-again Inv-loop μ-loop
 unfolding theoryIn
 loop-again c =
-    let at-notify = c .before .before in
-    let at-wide5 = at-notify .before in
-    let at-if1 = at-wide5 .before .before in
-    let at-wide4 = at-if1 .before in
-    let at-read-pair = at-wide4 .before in
-    let at-loop-test = at-read-pair .before in
-    let at-loop = at-loop-test .before in
-    let at-wide2 = at-loop .before .before .before .before in
-    let at-complement = at-wide2 .before in
-    let at-load = at-complement .before in
-    let at-wide = at-load .before .before in
-    let start = at-wide .before .before .before in
-    let pre = start .pre in
+    let at-notify = c .before .before in let at-wide5 = at-notify .before in let at-if1 = at-wide5 .before .before in let at-wide4 = at-if1 .before in
+    let at-read-pair = at-wide4 .before in let at-loop-test = at-read-pair .before in let at-loop = at-loop-test .before in
+    let at-wide2 = at-loop .before .before .before .before in let at-complement = at-wide2 .before in let at-load = at-complement .before in
+    let at-wide = at-load .before .before in let start = at-wide .before .before .before in let pre = start .pre in
     turn-next _ (pre .0 .0) _ _ _ _ _ (at-loop .loop .inv) _ (pre .0 .2) (pre .0 .3) (omega (arith, at-loop-test .loop-test .taken, at-wide .wide .ensures))
     (sym (strong-read _ _ _ _ (at-read-pair .read-pair .ensures)) ∙ sym (at-wide4 .wide4 .ensures) ∙ at-if1 .if1 .left)
     (at-wide5 .wide5 .ensures ∙ weak-read _ _ _ _ (at-read-pair .read-pair .ensures)) (pre .0 .4) _
@@ -110,8 +95,7 @@ same-length-2 c = search needs
 returns-2 : tie.Need-returns-2 Inv-loop μ-loop
 unfolding theoryIn
 returns-2 c =
-    let at-wide = c .before .before .before .before .before .before .before .before .before in
-    let start = at-wide .before .before .before in
+    let at-wide = c .before .before .before .before .before .before .before .before .before in let start = at-wide .before .before .before in
     (c .before .loop .inv .unchanged, walk-end _ (start .pre .0 .0) _ _ _ _ _ (c .before .loop .inv) (λ h _. absurd (omega (arith, c .loop-test .left, at-wide .wide .ensures))))
 
 pub walk-spec : {M : Type 1} → statement M

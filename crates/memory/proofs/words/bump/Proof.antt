@@ -21,8 +21,7 @@ same-length c = search needs
 
 returns : tie.Need-returns
 returns c =
-    let at-load = c .before .before .before .before in
-    let start = at-load .before .before .before in
+    let at-load = c .before .before .before .before in let start = at-load .before .before .before in
     c .before .before .store .ensures ∙ ap (λ n. set (start .args .mem .now) (fieldSize * start .args .field + start .args .i) (n + 1)) (at-load .load .ensures)
 
 pub bump-spec : {M : Type 1} → statement M

@@ -17,8 +17,7 @@ put-requires c κs = omega (arith, (c .before .before .before .pre), count-parts
 
 put-number-requires : tie.Need-put-number-requires
 put-number-requires c κs =
-    let at-put = c .before .before .before in
-    let start = at-put .before .before .before .before in
+    let at-put = c .before .before .before in let start = at-put .before .before .before .before in
     omega (arith, (start .pre), count-parts (start .args .atoms), (at-put .put .ensures .end), (at-put .put .kept .0))
 
 slice-aggregate-put-2 : tie.Need-slice-aggregate-put-2
@@ -26,8 +25,7 @@ slice-aggregate-put-2 c = search needs
 
 put-requires-2 : tie.Need-put-requires-2
 put-requires-2 c κs =
-    let at-put-number = c .before .before .before .before in
-    let at-put = at-put-number .before .before .before .before in
+    let at-put-number = c .before .before .before .before in let at-put = at-put-number .before .before .before .before in
     let start = at-put .before .before .before .before in
     omega (arith, (start .pre), count-parts (start .args .atoms), (at-put .put .ensures .end), (at-put .put .kept .0), (at-put-number .put-number .ensures .end), (at-put-number .put-number .kept .0))
 
@@ -37,11 +35,8 @@ same-length c = search needs
 returns : tie.Need-returns
 unfolding countLine
 returns c =
-    let at-put2 = c .before .before in
-    let at-put-number = at-put2 .before .before .before .before .before in
-    let at-put = at-put-number .before .before .before .before in
-    let start = at-put .before .before .before .before in
-    let pre = start .pre in
+    let at-put2 = c .before .before in let at-put-number = at-put2 .before .before .before .before .before in
+    let at-put = at-put-number .before .before .before .before in let start = at-put .before .before .before .before in let pre = start .pre in
     put-put (pre) (put-put (room-left _ _ (atomsWord ++ decimal (start .args .atoms)) newline (pre)) (at-put .put .ensures) (at-put-number .put-number .ensures))
     (at-put2 .put2 .ensures)
 

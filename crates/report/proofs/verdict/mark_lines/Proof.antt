@@ -40,8 +40,7 @@ loop-less c = search needs
 
 loop-again : tie.Need-loop-again Inv-loop μ-loop
 loop-again c =
-    let at-loop = c .before .before .before in
-    let start = at-loop .before .before .before in
+    let at-loop = c .before .before .before in let start = at-loop .before .before .before in
     (omega arith, simp length-set (at-loop .loop .inv .1), mark-next (at-loop .loop .marks) (start .args .log .now) (c .wide .ensures) (omega arith) (at-loop .loop .inv .1) (at-loop .loop .inv .2))
 
 same-length : tie.Need-same-length Inv-loop μ-loop

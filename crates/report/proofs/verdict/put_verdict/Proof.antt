@@ -18,8 +18,7 @@ slice-aggregate-put c = search needs
 put-requires : tie.Need-put-requires
 unfolding meant wordOf
 put-requires c κs =
-    let at-match = c .before .before .before in
-    let start = at-match .before .before in
+    let at-match = c .before .before .before in let start = at-match .before .before in
     subst (λ v. (start .args .at) + length (wordOf (meant v)) ≤ length (start .args .out .now)) (sym (is-go (start .args .v) (at-match .match .keys1))) (start .pre)
 
 enum-told-2 : tie.Need-enum-told-2
@@ -31,8 +30,7 @@ slice-aggregate-put-2 c = search needs
 put-requires-2 : tie.Need-put-requires-2
 unfolding meant wordOf
 put-requires-2 c κs =
-    let at-match = c .before .before .before in
-    let start = at-match .before .before in
+    let at-match = c .before .before .before in let start = at-match .before .before in
     subst (λ v. (start .args .at) + length (wordOf (meant v)) ≤ length (start .args .out .now)) (sym (is-hold (start .args .v) (at-match .match .keys2))) (start .pre)
 
 enum-told-3 : tie.Need-enum-told-3
@@ -44,8 +42,7 @@ slice-aggregate-put-3 c = search needs
 put-requires-3 : tie.Need-put-requires-3
 unfolding meant wordOf
 put-requires-3 c κs =
-    let at-match = c .before .before .before in
-    let start = at-match .before .before in
+    let at-match = c .before .before .before in let start = at-match .before .before in
     subst (λ v. (start .args .at) + length (wordOf (meant v)) ≤ length (start .args .out .now)) (sym (is-split (start .args .v) (at-match .match .keys3))) (start .pre)
 
 enum-told-4 : tie.Need-enum-told-4
@@ -57,8 +54,7 @@ slice-aggregate-put-4 c = search needs
 put-requires-4 : tie.Need-put-requires-4
 unfolding meant wordOf
 put-requires-4 c κs =
-    let at-match = c .before .before .before in
-    let start = at-match .before .before in
+    let at-match = c .before .before .before in let start = at-match .before .before in
     subst (λ v. (start .args .at) + length (wordOf (meant v)) ≤ length (start .args .out .now)) (sym (is-open (start .args .v) (at-match .match .keys4))) (start .pre)
 
 same-length : tie.Need-same-length
@@ -67,10 +63,7 @@ same-length c = search needs
 returns : tie.Need-returns
 unfolding meant wordOf
 returns c =
-    let at-put = c .before .before in
-    let at-match = at-put .before .before .before .before in
-    let start = at-match .before .before in
-    let args = start .args in
+    let at-put = c .before .before in let at-match = at-put .before .before .before .before in let start = at-match .before .before in let args = start .args in
     subst (λ v. Put (args .out .now) (args .at) (wordOf (meant v)) (at-put .put .last .0) (at-put .put .result)) (is-go (args .v) (at-match .match .keys1))
     (at-put .put .ensures)
 
@@ -80,10 +73,7 @@ same-length-2 c = search needs
 returns-2 : tie.Need-returns-2
 unfolding meant wordOf
 returns-2 c =
-    let at-put2 = c .before .before in
-    let at-match = at-put2 .before .before .before .before in
-    let start = at-match .before .before in
-    let args = start .args in
+    let at-put2 = c .before .before in let at-match = at-put2 .before .before .before .before in let start = at-match .before .before in let args = start .args in
     subst (λ v. Put (args .out .now) (args .at) (wordOf (meant v)) (at-put2 .put2 .last .0) (at-put2 .put2 .result)) (is-hold (args .v) (at-match .match .keys2))
     (at-put2 .put2 .ensures)
 
@@ -93,10 +83,7 @@ same-length-3 c = search needs
 returns-3 : tie.Need-returns-3
 unfolding meant wordOf
 returns-3 c =
-    let at-put3 = c .before .before in
-    let at-match = at-put3 .before .before .before .before in
-    let start = at-match .before .before in
-    let args = start .args in
+    let at-put3 = c .before .before in let at-match = at-put3 .before .before .before .before in let start = at-match .before .before in let args = start .args in
     subst (λ v. Put (args .out .now) (args .at) (wordOf (meant v)) (at-put3 .put3 .last .0) (at-put3 .put3 .result)) (is-split (args .v) (at-match .match .keys3))
     (at-put3 .put3 .ensures)
 
@@ -106,10 +93,7 @@ same-length-4 c = search needs
 returns-4 : tie.Need-returns-4
 unfolding meant wordOf
 returns-4 c =
-    let at-put4 = c .before .before in
-    let at-match = at-put4 .before .before .before .before in
-    let start = at-match .before .before in
-    let args = start .args in
+    let at-put4 = c .before .before in let at-match = at-put4 .before .before .before .before in let start = at-match .before .before in let args = start .args in
     subst (λ v. Put (args .out .now) (args .at) (wordOf (meant v)) (at-put4 .put4 .last .0) (at-put4 .put4 .result)) (is-open (args .v) (at-match .match .keys4))
     (at-put4 .put4 .ensures)
 

@@ -51,11 +51,8 @@ first-fit-requires c κs = search needs
 
 returns : tie.Need-returns
 returns c =
-    let at-has-line3 = c .before .before in
-    let at-has-line2 = at-has-line3 .before in
-    let at-has-line = at-has-line2 .before in
-    let start = at-has-line .before .before in
-    let args = start .args in
+    let at-has-line3 = c .before .before in let at-has-line2 = at-has-line3 .before in let at-has-line = at-has-line2 .before in
+    let start = at-has-line .before .before in let args = start .args in
     c .first-fit .ensures ∙ sym
     (verdict-by (marked (args .marks .now)) (args .a) (sym (at-has-line .has-line .ensures)) (sym (at-has-line2 .has-line2 .ensures)) (sym (at-has-line3 .has-line3 .ensures)) (sym (c .before .has-line4 .ensures)))
 

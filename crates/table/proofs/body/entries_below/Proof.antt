@@ -54,8 +54,7 @@ loop-less c = search needs
 -- src/body.rt:28:5
 loop-again : tie.Need-loop-again Inv-loop μ-loop
 loop-again c =
-    let at-loop = c .before .before .before .before in
-    let start = at-loop .before .before .before in
+    let at-loop = c .before .before .before .before in let start = at-loop .before .before .before in
     (omega arith, counted-next _ _ (at-loop .loop .inv .1) (c .add-if .ensures) (ap (λ e. ltb (e .rule) (start .args .r)) (c .before .before .read-entry .ensures)))
 
 -- src/body.rt:22:1

@@ -40,9 +40,7 @@ slice-read-degree c = omega (arith, small c)
 add-degree : tie.Need-add-degree Inv-loop μ-loop
 unfolding theoryIn
 add-degree c =
-    let at-pair-within = c .before .before in
-    let at-loop = at-pair-within .before .before in
-    let start = at-loop .before .before .before .before in
+    let at-pair-within = c .before .before in let at-loop = at-pair-within .before .before in let start = at-loop .before .before .before .before in
     let h : lib.ListN.getD (at-loop .loop .degree) (at-pair-within .pair-within .result .weaker) 0 ≤ at-loop .loop .i = tally-most _ _ _ _ (at-loop .loop .inv .2)
     (small c) in omega (arith, start .pre .0 .few)
 

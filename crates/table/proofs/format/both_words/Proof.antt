@@ -22,8 +22,7 @@ words-within-requires c κs = search needs
 
 returns : tie.Need-returns
 returns c =
-    let at-if1 = c .before .before in
-    let start = at-if1 .before .before .before in
+    let at-if1 = c .before .before in let start = at-if1 .before .before .before in
     let args = start .args in (
       (c .words-within .ensures .0) ∙ sym (left-in (args .table .now) (args .from) (args .n) (args .i) (at-if1 .if1 .taken)),
       (c .words-within .ensures .1) ∙ sym (right-in (args .table .now) (args .s) (args .from) (args .n) (args .i) (at-if1 .if1 .taken)),

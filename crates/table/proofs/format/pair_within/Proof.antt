@@ -32,9 +32,7 @@ pair-of-requires c κs = search needs
 
 returns : tie.Need-returns
 returns c =
-    let start = c .before .before .before .before .before .before in
-    let pre = start .pre in
-    let args = start .args in
+    let start = c .before .before .before .before .before .before in let pre = start .pre in let args = start .args in
     λ k. record { stronger = ((c .pair-of .ensures .0) ∙ (c .before .words-within .ensures .0) ∙ sym (left-in (args .table .now) (pairsFrom (args .s)) ((args .s) .pairs) (args .i) (pre .0))) k; weaker = ((c .pair-of .ensures .1) ∙ (c .before .words-within .ensures .1) ∙ sym (right-in (args .table .now) (args .s) (pairsFrom (args .s)) ((args .s) .pairs) (args .i) (pre .0))) k }
 
 pub pair-within-spec : {M : Type 1} → statement M

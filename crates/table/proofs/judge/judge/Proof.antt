@@ -44,7 +44,10 @@ add-expected c = search needs
 
 -- src/judge.rt:64:9
 returns-3 : tie.Need-returns-3
-returns-3 c = judged-by _ _ _ (c .before .before .before .before .read-sizes .ensures) (c .before .before .before .before .before .if1 .left) (judged-3 _ _ (flag (c .before .before .before .too-large .ensures) (c .before .before .if2 .left)) (wrong-length _ _ _ (c .before .span .ensures) (c .if3 .taken)))
+returns-3 c =
+    let at-if2 = c .before .before in let at-too-large = at-if2 .before in let at-read-sizes = at-too-large .before in let at-if1 = at-read-sizes .before in
+    judged-by _ _ _ (at-read-sizes .read-sizes .ensures) (at-if1 .if1 .left)
+    (judged-3 _ _ (flag (at-too-large .too-large .ensures) (at-if2 .if2 .left)) (wrong-length _ _ _ (c .before .span .ensures) (c .if3 .taken)))
 
 -- src/judge.rt:66:8
 bad-kind-requires : tie.Need-bad-kind-requires
@@ -52,35 +55,69 @@ bad-kind-requires c κs = search needs
 
 -- src/judge.rt:67:9
 returns-4 : tie.Need-returns-4
-returns-4 c = judged-by _ _ _ (c .before .before .before .before .before .before .read-sizes .ensures) (c .before .before .before .before .before .before .before .if1 .left) (judged-4 _ _ (flag (c .before .before .before .before .before .too-large .ensures) (c .before .before .before .before .if2 .left)) (right-length _ _ _ (c .before .before .before .span .ensures) (c .before .before .if3 .left)) (flag (c .before .bad-kind .ensures) (c .if4 .taken)))
+returns-4 c =
+    let at-if3 = c .before .before in let at-span = at-if3 .before in let at-if2 = at-span .before in let at-too-large = at-if2 .before in
+    let at-read-sizes = at-too-large .before in let at-if1 = at-read-sizes .before in
+    judged-by _ _ _ (at-read-sizes .read-sizes .ensures) (at-if1 .if1 .left)
+    (judged-4 _ _ (flag (at-too-large .too-large .ensures) (at-if2 .if2 .left)) (right-length _ _ _ (at-span .span .ensures) (at-if3 .if3 .left)) (flag (c .before .bad-kind .ensures) (c .if4 .taken)))
 
 -- src/judge.rt:69:8
 out-of-range-requires : tie.Need-out-of-range-requires
-out-of-range-requires c κs = (flag (c .before .before .before .before .before .too-large .ensures) (c .before .before .before .before .if2 .left), c .before .before .if3 .left ∙ ap (λ k. 10 + 4 * k) (c .before .before .before .span .ensures))
+out-of-range-requires c κs =
+    let at-span = c .before .before .before in let at-if2 = at-span .before in let at-too-large = at-if2 .before in
+    (flag (at-too-large .too-large .ensures) (at-if2 .if2 .left), c .before .before .if3 .left ∙ ap (λ k. 10 + 4 * k) (at-span .span .ensures))
 
 -- src/judge.rt:70:9
 returns-5 : tie.Need-returns-5
-returns-5 c = judged-by _ _ _ (c .before .before .before .before .before .before .before .before .read-sizes .ensures) (c .before .before .before .before .before .before .before .before .before .if1 .left) (judged-5 _ _ (flag (c .before .before .before .before .before .before .before .too-large .ensures) (c .before .before .before .before .before .before .if2 .left)) (right-length _ _ _ (c .before .before .before .before .before .span .ensures) (c .before .before .before .before .if3 .left)) (flag (c .before .before .before .bad-kind .ensures) (c .before .before .if4 .left)) (flag (c .before .out-of-range .ensures) (c .if5 .taken)))
+returns-5 c =
+    let at-if4 = c .before .before in let at-bad-kind = at-if4 .before in let at-if3 = at-bad-kind .before in let at-span = at-if3 .before in
+    let at-if2 = at-span .before in let at-too-large = at-if2 .before in let at-read-sizes = at-too-large .before in let at-if1 = at-read-sizes .before in
+    judged-by _ _ _ (at-read-sizes .read-sizes .ensures) (at-if1 .if1 .left)
+    (judged-5 _ _ (flag (at-too-large .too-large .ensures) (at-if2 .if2 .left)) (right-length _ _ _ (at-span .span .ensures) (at-if3 .if3 .left)) (flag (at-bad-kind .bad-kind .ensures) (at-if4 .if4 .left)) (flag (c .before .out-of-range .ensures) (c .if5 .taken)))
 
 -- src/judge.rt:72:8
 unsorted-requires : tie.Need-unsorted-requires
-unsorted-requires c κs = (c .before .before .before .before .if3 .left ∙ ap (λ k. 10 + 4 * k) (c .before .before .before .before .before .span .ensures), flag (c .before .before .before .bad-kind .ensures) (c .before .before .if4 .left))
+unsorted-requires c κs =
+    let at-bad-kind = c .before .before .before in let at-if3 = at-bad-kind .before in let at-span = at-if3 .before in
+    (at-if3 .if3 .left ∙ ap (λ k. 10 + 4 * k) (at-span .span .ensures), flag (at-bad-kind .bad-kind .ensures) (c .before .before .if4 .left))
 
 -- src/judge.rt:73:9
 returns-6 : tie.Need-returns-6
-returns-6 c = judged-by _ _ _ (c .before .before .before .before .before .before .before .before .before .before .read-sizes .ensures) (c .before .before .before .before .before .before .before .before .before .before .before .if1 .left) (judged-6 _ _ (flag (c .before .before .before .before .before .before .before .before .before .too-large .ensures) (c .before .before .before .before .before .before .before .before .if2 .left)) (right-length _ _ _ (c .before .before .before .before .before .before .before .span .ensures) (c .before .before .before .before .before .before .if3 .left)) (flag (c .before .before .before .before .before .bad-kind .ensures) (c .before .before .before .before .if4 .left)) (flag (c .before .before .before .out-of-range .ensures) (c .before .before .if5 .left)) (flag (c .before .unsorted .ensures) (c .if6 .taken)))
+returns-6 c =
+    let at-if5 = c .before .before in let at-out-of-range = at-if5 .before in let at-if4 = at-out-of-range .before in let at-bad-kind = at-if4 .before in
+    let at-if3 = at-bad-kind .before in let at-span = at-if3 .before in let at-if2 = at-span .before in let at-too-large = at-if2 .before in
+    let at-read-sizes = at-too-large .before in let at-if1 = at-read-sizes .before in
+    judged-by _ _ _ (at-read-sizes .read-sizes .ensures) (at-if1 .if1 .left)
+    (judged-6 _ _ (flag (at-too-large .too-large .ensures) (at-if2 .if2 .left)) (right-length _ _ _ (at-span .span .ensures) (at-if3 .if3 .left)) (flag (at-bad-kind .bad-kind .ensures) (at-if4 .if4 .left)) (flag (at-out-of-range .out-of-range .ensures) (at-if5 .if5 .left)) (flag (c .before .unsorted .ensures) (c .if6 .taken)))
 
 -- src/judge.rt:75:8
 has-cycle-requires : tie.Need-has-cycle-requires
-has-cycle-requires c κs = ((flag (c .before .before .before .before .before .before .before .before .before .too-large .ensures) (c .before .before .before .before .before .before .before .before .if2 .left)), (flag (c .before .before .before .out-of-range .ensures) (c .before .before .if5 .left)), (flag (c .before .unsorted .ensures) (c .if6 .left)), c .before .before .before .before .before .before .if3 .left ∙ ap (λ k. 10 + 4 * k) (c .before .before .before .before .before .before .before .span .ensures))
+has-cycle-requires c κs =
+    let at-if5 = c .before .before in let at-out-of-range = at-if5 .before in let at-if3 = at-out-of-range .before .before .before in let at-span = at-if3 .before in
+    let at-if2 = at-span .before in let at-too-large = at-if2 .before in (
+      (flag (at-too-large .too-large .ensures) (at-if2 .if2 .left)),
+      (flag (at-out-of-range .out-of-range .ensures) (at-if5 .if5 .left)),
+      (flag (c .before .unsorted .ensures) (c .if6 .left)),
+      at-if3 .if3 .left ∙ ap (λ k. 10 + 4 * k) (at-span .span .ensures),
+    )
 
 -- src/judge.rt:76:9
 returns-7 : tie.Need-returns-7
-returns-7 c = judged-by _ _ _ (c .before .before .before .before .before .before .before .before .before .before .before .before .read-sizes .ensures) (c .before .before .before .before .before .before .before .before .before .before .before .before .before .if1 .left) (judged-7 _ _ (flag (c .before .before .before .before .before .before .before .before .before .before .before .too-large .ensures) (c .before .before .before .before .before .before .before .before .before .before .if2 .left)) (right-length _ _ _ (c .before .before .before .before .before .before .before .before .before .span .ensures) (c .before .before .before .before .before .before .before .before .if3 .left)) (flag (c .before .before .before .before .before .before .before .bad-kind .ensures) (c .before .before .before .before .before .before .if4 .left)) (flag (c .before .before .before .before .before .out-of-range .ensures) (c .before .before .before .before .if5 .left)) (flag (c .before .before .before .unsorted .ensures) (c .before .before .if6 .left)) (flag (c .before .has-cycle .ensures) (c .if7 .taken)))
+returns-7 c =
+    let at-if6 = c .before .before in let at-unsorted = at-if6 .before in let at-if5 = at-unsorted .before in let at-out-of-range = at-if5 .before in
+    let at-if4 = at-out-of-range .before in let at-bad-kind = at-if4 .before in let at-if3 = at-bad-kind .before in let at-span = at-if3 .before in
+    let at-if2 = at-span .before in let at-too-large = at-if2 .before in let at-read-sizes = at-too-large .before in let at-if1 = at-read-sizes .before in
+    judged-by _ _ _ (at-read-sizes .read-sizes .ensures) (at-if1 .if1 .left)
+    (judged-7 _ _ (flag (at-too-large .too-large .ensures) (at-if2 .if2 .left)) (right-length _ _ _ (at-span .span .ensures) (at-if3 .if3 .left)) (flag (at-bad-kind .bad-kind .ensures) (at-if4 .if4 .left)) (flag (at-out-of-range .out-of-range .ensures) (at-if5 .if5 .left)) (flag (at-unsorted .unsorted .ensures) (at-if6 .if6 .left)) (flag (c .before .has-cycle .ensures) (c .if7 .taken)))
 
 -- src/judge.rt:52:1
 returns-8 : tie.Need-returns-8
-returns-8 c = judged-by _ _ _ (c .before .before .before .before .before .before .before .before .before .before .before .before .read-sizes .ensures) (c .before .before .before .before .before .before .before .before .before .before .before .before .before .if1 .left) (judged-0 _ _ (flag (c .before .before .before .before .before .before .before .before .before .before .before .too-large .ensures) (c .before .before .before .before .before .before .before .before .before .before .if2 .left)) (right-length _ _ _ (c .before .before .before .before .before .before .before .before .before .span .ensures) (c .before .before .before .before .before .before .before .before .if3 .left)) (flag (c .before .before .before .before .before .before .before .bad-kind .ensures) (c .before .before .before .before .before .before .if4 .left)) (flag (c .before .before .before .before .before .out-of-range .ensures) (c .before .before .before .before .if5 .left)) (flag (c .before .before .before .unsorted .ensures) (c .before .before .if6 .left)) (flag (c .before .has-cycle .ensures) (c .if7 .left)))
+returns-8 c =
+    let at-if6 = c .before .before in let at-unsorted = at-if6 .before in let at-if5 = at-unsorted .before in let at-out-of-range = at-if5 .before in
+    let at-if4 = at-out-of-range .before in let at-bad-kind = at-if4 .before in let at-if3 = at-bad-kind .before in let at-span = at-if3 .before in
+    let at-if2 = at-span .before in let at-too-large = at-if2 .before in let at-read-sizes = at-too-large .before in let at-if1 = at-read-sizes .before in
+    judged-by _ _ _ (at-read-sizes .read-sizes .ensures) (at-if1 .if1 .left)
+    (judged-0 _ _ (flag (at-too-large .too-large .ensures) (at-if2 .if2 .left)) (right-length _ _ _ (at-span .span .ensures) (at-if3 .if3 .left)) (flag (at-bad-kind .bad-kind .ensures) (at-if4 .if4 .left)) (flag (at-out-of-range .out-of-range .ensures) (at-if5 .if5 .left)) (flag (at-unsorted .unsorted .ensures) (at-if6 .if6 .left)) (flag (c .before .has-cycle .ensures) (c .if7 .left)))
 
 pub judge-spec : {M : Type 1} → statement M
 judge-spec =

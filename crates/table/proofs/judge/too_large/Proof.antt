@@ -22,8 +22,7 @@ either-requires-4 c κs = search needs
 returns : tie.Need-returns
 unfolding oversize
 returns c =
-    let at-either2 = c .before .before .before .before in
-    let at-either = at-either2 .before .before in
+    let at-either2 = c .before .before .before .before in let at-either = at-either2 .before .before in
     ored (c .either4 .ensures) refl (ored (c .before .either3 .ensures) refl (ored (at-either2 .either2 .ensures) refl (at-either .either .ensures)))
 
 pub too-large-spec : {M : Type 1} → statement M

@@ -39,8 +39,7 @@ loop-less c = search needs
 
 loop-again : tie.Need-loop-again Inv-loop μ-loop
 loop-again c =
-    let at-loop = c .before .before .before in
-    let start = at-loop .before .before in
+    let at-loop = c .before .before .before in let start = at-loop .before .before in
     let args = start .args in (
       omega arith,
       at-loop .loop .inv .1,
@@ -50,8 +49,7 @@ loop-again c =
 
 returns : tie.Need-returns Inv-loop μ-loop
 returns c =
-    let start = c .before .before .before in
-    let args = start .args in
+    let start = c .before .before .before in let args = start .args in
     scan-end (c .before .loop .i) (args .n) (λ k. leb (args .limit) (word (args .table .now) ((args .base) + ((args .from) + k)))) (omega arith) (omega arith)
     (c .before .loop .inv .2)
 

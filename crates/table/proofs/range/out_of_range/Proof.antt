@@ -68,16 +68,9 @@ either-requires-5 c κs = search needs
 returns : tie.Need-returns
 unfolding outOfRange
 returns c =
-    let at-either3 = c .before .before in
-    let at-either2 = at-either3 .before in
-    let at-either = at-either2 .before in
-    let at-any-at-least6 = at-either .before in
-    let at-any-at-least5 = at-any-at-least6 .before in
-    let at-any-at-least4 = at-any-at-least5 .before in
-    let at-any-at-least3 = at-any-at-least4 .before in
-    let at-any-at-least2 = at-any-at-least3 .before in
-    let at-any-at-least = at-any-at-least2 .before in
-    let at-span = at-any-at-least .before .before .before in
+    let at-either3 = c .before .before in let at-either2 = at-either3 .before in let at-either = at-either2 .before in let at-any-at-least6 = at-either .before in
+    let at-any-at-least5 = at-any-at-least6 .before in let at-any-at-least4 = at-any-at-least5 .before in let at-any-at-least3 = at-any-at-least4 .before in
+    let at-any-at-least2 = at-any-at-least3 .before in let at-any-at-least = at-any-at-least2 .before in let at-span = at-any-at-least .before .before .before in
     ored (c .either5 .ensures)
     (ored (at-either3 .either3 .ensures) (ored (at-either .either .ensures) (right-scan _ _ _ _ _ _ _ (at-span .span .ensures) (at-any-at-least .any-at-least .ensures)) (right-scan _ _ _ _ _ _ _ (at-span .span .ensures) (at-any-at-least2 .any-at-least2 .ensures))) (ored (at-either2 .either2 .ensures) (at-any-at-least3 .any-at-least3 .ensures) (right-scan _ _ _ _ _ _ _ (at-span .span .ensures) (at-any-at-least4 .any-at-least4 .ensures))))
     (ored (c .before .either4 .ensures) (at-any-at-least5 .any-at-least5 .ensures) (right-scan _ _ _ _ _ _ _ (at-span .span .ensures) (at-any-at-least6 .any-at-least6 .ensures)))
