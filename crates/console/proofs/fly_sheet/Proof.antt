@@ -3,14 +3,11 @@ use borrow.Author.Needs.{needs}
 use Rattle.console.proofs.fly_sheet.Statement.{statement}
 use Rattle.console.proofs.fly_sheet.Tie as tie
 
-sheet-of-requires : tie.Need-sheet-of-requires
-sheet-of-requires c κs = search needs
-
-cast-result : tie.Need-cast-result
-cast-result c = search needs
-
 returns : tie.Need-returns
 returns c = c .before .before .sheet-of .ensures
 
 pub fly-sheet-spec : {M : Type 1} → statement M
-fly-sheet-spec = tie.close (tie.spec sheet-of-requires cast-result returns)
+fly-sheet-spec =
+    tie.close
+    (tie.spec
+    (λ c κs. search needs) (λ c. search needs) returns)

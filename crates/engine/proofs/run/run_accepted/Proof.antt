@@ -4,32 +4,8 @@ use borrow.Author.Needs.{needs}
 use Rattle.engine.proofs.run.run_accepted.Statement.{statement}
 use Rattle.engine.proofs.run.run_accepted.Tie as tie
 
-refuse-requires : tie.Need-refuse-requires
-refuse-requires c κs = search needs
-
-same-length : tie.Need-same-length
-same-length c = search needs
-
-same-length-2 : tie.Need-same-length-2
-same-length-2 c = search needs
-
 returns : tie.Need-returns
 returns c = let i = c .before .before .before .before .before .before .before in refused-as _ _ _ _ (refused-scratch _ _ _ _ _ (i .before .before .before .before .pre) (i .if1 .taken)) (c .before .before .before .before .refuse .ensures)
-
-cast-if2 : tie.Need-cast-if2
-cast-if2 c = search needs
-
-mul-if2 : tie.Need-mul-if2
-mul-if2 c = search needs
-
-refuse-requires-2 : tie.Need-refuse-requires-2
-refuse-requires-2 c κs = search needs
-
-same-length-3 : tie.Need-same-length-3
-same-length-3 c = search needs
-
-same-length-4 : tie.Need-same-length-4
-same-length-4 c = search needs
 
 returns-2 : tie.Need-returns-2
 returns-2 c =
@@ -37,29 +13,11 @@ returns-2 c =
     let e = i .before .before in
     refused-as _ _ _ _ (refused-log _ _ _ _ _ (e .before .before .before .before .pre) (e .if1 .left) (i .if2 .taken)) (c .before .before .before .before .refuse2 .ensures)
 
-size-of-requires : tie.Need-size-of-requires
-size-of-requires c κs = search needs
-
-clear-requires : tie.Need-clear-requires
-clear-requires c κs = search needs
-
-same-length-5 : tie.Need-same-length-5
-same-length-5 c = search needs
-
 returns-3 : tie.Need-returns-3
 returns-3 c = ran _ _ _ _ _ (c .before .before .before .before .before .before .before .before .before .before .before .before .pre) (c .before .before .before .before .before .before .before .before .if1 .left) (c .before .before .before .before .before .before .if2 .left) _ _ _ _ (worked-none _ _ (c .before .before .before .before .before .before .before .before .before .before .before .before .pre) _ _ (size-in _ _ (c .before .before .before .before .before .before .before .before .before .before .before .before .pre) _ (c .before .before .before .before .before .size-of .ensures)) (c .before .before .before .before .if3 .taken) _ _) (c .before .before .clear .ensures)
 
 run-started-requires : tie.Need-run-started-requires
 run-started-requires c κs = (c .before .before .before .before .before .before .before .before .before .before .pre, c .before .before .before .before .before .before .if1 .left, c .before .before .before .before .if2 .left, size-in _ _ (c .before .before .before .before .before .before .before .before .before .before .pre) _ (c .before .before .before .size-of .ensures), c .before .before .if3 .left)
-
-clear-requires-2 : tie.Need-clear-requires-2
-clear-requires-2 c κs = search needs
-
-same-length-6 : tie.Need-same-length-6
-same-length-6 c = search needs
-
-same-length-7 : tie.Need-same-length-7
-same-length-7 c = search needs
 
 returns-4 : tie.Need-returns-4
 returns-4 c = ran _ _ _ _ _ (c .before .before .before .before .before .before .before .before .before .before .before .before .before .before .before .before .before .before .before .pre) (c .before .before .before .before .before .before .before .before .before .before .before .before .before .before .before .if1 .left) (c .before .before .before .before .before .before .before .before .before .before .before .before .before .if2 .left) _ _ _ _ (c .before .before .before .before .before .before .before .before .run-started .ensures) (c .before .before .clear2 .ensures)
@@ -68,22 +26,6 @@ pub run-accepted-spec : {M : Type 1} → statement M
 run-accepted-spec =
     tie.close
     (tie.spec
-    refuse-requires
-    same-length
-    same-length-2
-    returns
-    cast-if2
-    mul-if2
-    refuse-requires-2
-    same-length-3
-    same-length-4
-    returns-2
-    size-of-requires
-    clear-requires
-    same-length-5
-    returns-3
-    run-started-requires
-    clear-requires-2
-    same-length-6
-    same-length-7
-    returns-4)
+    (λ c κs. search needs) (λ c. search needs) (λ c. search needs) returns (λ c. search needs) (λ c. search needs)
+    (λ c κs. search needs) (λ c. search needs) (λ c. search needs) returns-2 (λ c κs. search needs) (λ c κs. search needs)
+    (λ c. search needs) returns-3 run-started-requires (λ c κs. search needs) (λ c. search needs) (λ c. search needs) returns-4)

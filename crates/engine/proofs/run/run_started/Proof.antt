@@ -5,12 +5,6 @@ use borrow.Author.Needs.{needs}
 use Rattle.engine.proofs.run.run_started.Statement.{statement}
 use Rattle.engine.proofs.run.run_started.Tie as tie
 
-prepare-requires : tie.Need-prepare-requires
-prepare-requires c κs = search needs
-
-write-initial-requires : tie.Need-write-initial-requires
-write-initial-requires c κs = search needs
-
 work-requires : tie.Need-work-requires
 work-requires c κs =
     let at-write-initial = c .before .before .before .before .before .before in let at-prepare = at-write-initial .before .before .before .before .before in
@@ -25,12 +19,6 @@ work-requires c κs =
       (pre .3, pre .4),
     )
 
-same-length : tie.Need-same-length
-same-length c = search needs
-
-same-length-2 : tie.Need-same-length-2
-same-length-2 c = search needs
-
 returns : tie.Need-returns
 returns c =
     let at-work = c .before .before .before .before in let at-write-initial = at-work .before .before .before .before .before .before .before in
@@ -41,9 +29,4 @@ pub run-started-spec : {M : Type 1} → statement M
 run-started-spec =
     tie.close
     (tie.spec
-    prepare-requires
-    write-initial-requires
-    work-requires
-    same-length
-    same-length-2
-    returns)
+    (λ c κs. search needs) (λ c κs. search needs) work-requires (λ c. search needs) (λ c. search needs) returns)

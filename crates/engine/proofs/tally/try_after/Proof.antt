@@ -5,9 +5,6 @@ use borrow.Author.Needs.{needs}
 use Rattle.engine.proofs.tally.try_after.Statement.{statement}
 use Rattle.engine.proofs.tally.try_after.Tie as tie
 
-add-requires : tie.Need-add-requires
-add-requires c κs = search needs
-
 try-both-requires : tie.Need-try-both-requires
 try-both-requires c κs =
     let at-add = c .before .before .before .before in let start = at-add .before .before .before .before .before in
@@ -18,12 +15,6 @@ try-uses-requires c κs =
     let p = c .before .before .before .before .before .before .before .before .before .before .before .before .before .before .before .before .pre in
     (p .0 .0, omega arith, c .before .before .before .before .before .before .try-both .ensures .logged, p .1)
 
-same-length : tie.Need-same-length
-same-length c = search needs
-
-same-length-2 : tie.Need-same-length-2
-same-length-2 c = search needs
-
 returns : tie.Need-returns
 returns c =
     let at-try-uses = c .before .before .before .before in let at-try-both = at-try-uses .before .before .before .before .before .before .before in
@@ -33,4 +24,5 @@ returns c =
 pub try-after-spec : {M : Type 1} → statement M
 try-after-spec =
     tie.close
-    (tie.spec add-requires try-both-requires try-uses-requires same-length same-length-2 returns)
+    (tie.spec
+    (λ c κs. search needs) try-both-requires try-uses-requires (λ c. search needs) (λ c. search needs) returns)

@@ -13,12 +13,6 @@ mul-x c = record { fits = omega (arith, few _ _ (c .before .before .before .pre 
 add-x : tie.Need-add-x
 add-x c = record { fits = omega (arith, few _ _ (c .before .before .before .pre .0) .atoms) }
 
-follows-requires : tie.Need-follows-requires
-follows-requires c κs = search needs
-
-same-length : tie.Need-same-length
-same-length c = search needs
-
 returns : tie.Need-returns
 returns c =
     let start = c .before .before .before .before .before .before in
@@ -36,12 +30,6 @@ append-requires c κs =
     let r = room-for _ _ (p .0) _ _ (p .1) (p .2) _ _ _ (p .3) (p .4) _ (e .before .follows .ensures ∙ infers-at _ _ _ _ (p .2)) (not-false _ (e .if1 .left)) in
     (r .0, omega (arith, r .1))
 
-same-length-2 : tie.Need-same-length-2
-same-length-2 c = search needs
-
-same-length-3 : tie.Need-same-length-3
-same-length-3 c = search needs
-
 returns-2 : tie.Need-returns-2
 returns-2 c =
     let at-append = c .before .before in let at-write = at-append .before .before .before .before in let at-before = at-write .before in
@@ -55,13 +43,5 @@ pub try-open-spec : {M : Type 1} → statement M
 try-open-spec =
     tie.close
     (tie.spec
-    mul-x
-    add-x
-    follows-requires
-    same-length
-    returns
-    write-requires
-    append-requires
-    same-length-2
-    same-length-3
-    returns-2)
+    mul-x add-x (λ c κs. search needs) (λ c. search needs) returns write-requires append-requires (λ c. search needs)
+    (λ c. search needs) returns-2)

@@ -10,9 +10,6 @@ either-written-requires c κs =
     let start = c .before .before .before .before in
     (omega (arith, few _ _ (start .pre .0) .atoms), (start .pre .2), (start .pre .4 .ready .invariant .room))
 
-same-length : tie.Need-same-length
-same-length c = search needs
-
 returns : tie.Need-returns
 returns c =
     let start = c .before .before .before .before .before .before in
@@ -29,19 +26,10 @@ try-open-requires c κs =
       first-open _ _ (pre .0) _ _ (pre .1) (pre .2) (pre .3) _ _ _ (pre .4) (at-either-written .either-written .ensures) (at-if1 .if1 .left),
     )
 
-same-length-2 : tie.Need-same-length-2
-same-length-2 c = search needs
-
-same-length-3 : tie.Need-same-length-3
-same-length-3 c = search needs
-
 returns-2 : tie.Need-returns-2
 returns-2 c =
     let at-try-open = c .before .before .before .before .before in let start = at-try-open .before .before .before .before .before .before .before .before .before in
     first-written _ _ (start .pre .0) _ _ (start .pre .1) (start .pre .2) (start .pre .3) _ _ _ (start .pre .4) _ _ _ (at-try-open .try-open .ensures) (c .if2 .taken)
-
-add-try-open : tie.Need-add-try-open
-add-try-open c = search needs
 
 try-open-requires-2 : tie.Need-try-open-requires-2
 try-open-requires-2 c κs =
@@ -56,12 +44,6 @@ try-open-requires-2 c κs =
           (at-try-open .try-open .ensures) (at-if2 .if2 .left),
     )
 
-same-length-4 : tie.Need-same-length-4
-same-length-4 c = search needs
-
-same-length-5 : tie.Need-same-length-5
-same-length-5 c = search needs
-
 returns-3 : tie.Need-returns-3
 returns-3 c = tried-on _ (c .before .before .before .before .before .before .before .before .before .before .before .before .try-open .ensures) (c .before .before .before .before .try-open2 .ensures)
 
@@ -69,15 +51,5 @@ pub try-opposites-spec : {M : Type 1} → statement M
 try-opposites-spec =
     tie.close
     (tie.spec
-    either-written-requires
-    same-length
-    returns
-    try-open-requires
-    same-length-2
-    same-length-3
-    returns-2
-    add-try-open
-    try-open-requires-2
-    same-length-4
-    same-length-5
-    returns-3)
+    either-written-requires (λ c. search needs) returns try-open-requires (λ c. search needs) (λ c. search needs) returns-2
+    (λ c. search needs) try-open-requires-2 (λ c. search needs) (λ c. search needs) returns-3)

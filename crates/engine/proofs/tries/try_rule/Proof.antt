@@ -9,12 +9,6 @@ use Rattle.engine.proofs.tries.try_rule.Tie as tie
 is-strict-requires : tie.Need-is-strict-requires
 is-strict-requires c κs = (c .before .before .before .before .pre .2 .ready, c .before .before .before .before .pre .1, few _ _ (c .before .before .before .before .pre .0) .rules)
 
-visits-requires : tie.Need-visits-requires
-visits-requires c κs = search needs
-
-same-length : tie.Need-same-length
-same-length c = search needs
-
 returns : tie.Need-returns
 returns c =
     let start = c .before .before .before .before .before .before .before in
@@ -30,12 +24,6 @@ try-both-requires c κs =
     let start = c .before .before .before .before .before .before .before .before .before .before .before in
     (start .pre .0, head-small _ _ (start .pre .0) _ _ (start .pre .1) (c .before .before .head-of .ensures), start .pre .2)
 
-same-length-2 : tie.Need-same-length-2
-same-length-2 c = search needs
-
-same-length-3 : tie.Need-same-length-3
-same-length-3 c = search needs
-
 returns-2 : tie.Need-returns-2
 returns-2 c =
     let at-try-both = c .before .before .before .before in let at-head-of = at-try-both .before .before .before in let at-if1 = at-head-of .before .before in
@@ -47,12 +35,5 @@ pub try-rule-spec : {M : Type 1} → statement M
 try-rule-spec =
     tie.close
     (tie.spec
-    is-strict-requires
-    visits-requires
-    same-length
-    returns
-    head-of-requires
-    try-both-requires
-    same-length-2
-    same-length-3
-    returns-2)
+    is-strict-requires (λ c κs. search needs) (λ c. search needs) returns head-of-requires try-both-requires (λ c. search needs)
+    (λ c. search needs) returns-2)

@@ -35,19 +35,10 @@ add-k c =
     let p = c .before .before .before .before .before .before .before .before .before .before .before .before .before .before .pre in
     record { fits = omega (arith, c .before .before .before .before .before .before .before .before .before .loop-test .taken, uses-few (p .2 .ready) (literal-in _ _ _ (p .1)) (p .3)) }
 
-loop-less : tie.Need-loop-less Inv-loop μ-loop
-loop-less c = search needs
-
 loop-again : tie.Need-loop-again Inv-loop μ-loop
 loop-again c =
     let l = c .before .before .before .before .before .before .before .before .before .before in
     using-next _ _ _ _ _ _ (l .before .before .before .before .pre .3) _ _ _ _ (l .loop .inv) (c .before .before .before .before .before .before .before .before .before .loop-test .taken) _ (c .before .before .before .before .before .before .before .user-at .ensures) _ _ _ (c .before .before .before .before .try-rule .ensures)
-
-same-length : tie.Need-same-length Inv-loop μ-loop
-same-length c = search needs
-
-same-length-2 : tie.Need-same-length-2 Inv-loop μ-loop
-same-length-2 c = search needs
 
 returns : tie.Need-returns Inv-loop μ-loop
 returns c = using-end _ _ _ _ _ _ (c .before .before .before .before .before .pre .3) _ _ _ _ (c .before .loop .inv) (c .loop-test .left)
@@ -56,14 +47,5 @@ pub try-uses-spec : {M : Type 1} → statement M
 try-uses-spec =
     tie.close
     (tie.spec
-    Inv-loop
-    μ-loop
-    loop-holds
-    user-at-requires
-    try-rule-requires
-    add-k
-    loop-less
-    loop-again
-    same-length
-    same-length-2
-    returns)
+    Inv-loop μ-loop loop-holds user-at-requires try-rule-requires add-k (λ c. search needs) loop-again (λ c. search needs)
+    (λ c. search needs) returns)

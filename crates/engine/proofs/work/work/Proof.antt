@@ -22,15 +22,6 @@ loop-holds c = stands-start _ (proper-in _ _ (c .before .before .before .pre .0 
 process-next-requires : tie.Need-process-next-requires Inv-loop μ-loop
 process-next-requires c κs = (c .before .before .before .before .before .before .before .before .pre .0 .0, stands-asks _ (proper-in _ _ (c .before .before .before .before .before .before .before .before .pre .0 .0)) _ _ _ _ _ _ _ (c .before .before .before .before .loop .inv) (c .before .before .if1 .taken))
 
-counts-in-requires : tie.Need-counts-in-requires Inv-loop μ-loop
-counts-in-requires c κs = search needs
-
-same-length : tie.Need-same-length Inv-loop μ-loop
-same-length c = search needs
-
-same-length-2 : tie.Need-same-length-2 Inv-loop μ-loop
-same-length-2 c = search needs
-
 returns : tie.Need-returns Inv-loop μ-loop
 returns c = stands-stopped _ (proper-in _ _ (c .before .before .before .before .before .before .before .before .before .before .before .before .before .before .before .before .before .pre .0 .0)) _ _ _ _ _ _ _ (c .before .before .before .before .before .before .before .before .before .before .before .before .before .loop .inv) (c .before .before .before .before .before .before .before .before .before .before .before .if1 .taken) _ _ _ _ (c .before .before .before .before .before .before .before .before .process-next .ensures) (c .before .if2 .taken) _ (c .counts-in .ensures)
 
@@ -40,15 +31,6 @@ loop-less c = omega (arith, c .before .before .before .before .before .before .b
 loop-again : tie.Need-loop-again Inv-loop μ-loop
 loop-again c = stands-next _ (proper-in _ _ (c .before .before .before .before .before .before .before .before .before .before .before .before .before .before .before .before .pre .0 .0)) _ _ _ _ _ _ _ (c .before .before .before .before .before .before .before .before .before .before .before .before .loop .inv) (c .before .before .before .before .before .before .before .before .before .before .if1 .taken) _ _ _ _ (c .before .before .before .before .before .before .before .process-next .ensures) (c .if2 .left)
 
-counts-in-requires-2 : tie.Need-counts-in-requires-2 Inv-loop μ-loop
-counts-in-requires-2 c κs = search needs
-
-same-length-3 : tie.Need-same-length-3 Inv-loop μ-loop
-same-length-3 c = search needs
-
-same-length-4 : tie.Need-same-length-4 Inv-loop μ-loop
-same-length-4 c = search needs
-
 returns-2 : tie.Need-returns-2 Inv-loop μ-loop
 returns-2 c = stands-done _ (proper-in _ _ (c .before .before .before .before .before .before .before .pre .0 .0)) _ _ _ _ _ _ _ (c .before .before .before .loop .inv) (c .before .if1 .left) _ (c .counts-in2 .ensures)
 
@@ -56,17 +38,5 @@ pub work-spec : {M : Type 1} → statement M
 work-spec =
     tie.close
     (tie.spec
-    Inv-loop
-    μ-loop
-    loop-holds
-    process-next-requires
-    counts-in-requires
-    same-length
-    same-length-2
-    returns
-    loop-less
-    loop-again
-    counts-in-requires-2
-    same-length-3
-    same-length-4
-    returns-2)
+    Inv-loop μ-loop loop-holds process-next-requires (λ c κs. search needs) (λ c. search needs) (λ c. search needs) returns loop-less
+    loop-again (λ c κs. search needs) (λ c. search needs) (λ c. search needs) returns-2)

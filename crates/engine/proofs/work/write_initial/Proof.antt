@@ -28,26 +28,14 @@ loop-holds c =
     let start = c .before .before .before .before in
     (refl, omega arith, opening-start _ _ _ (start .pre .2) (omega (arith, atoms-in (start .args .table .now) (start .args .s))))
 
-try-literal-requires : tie.Need-try-literal-requires Inv-loop μ-loop
-try-literal-requires c κs = search needs
-
 add-q : tie.Need-add-q Inv-loop μ-loop
 add-q c = record { fits = omega (arith, few _ _ (c .before .before .before .before .before .before .before .before .before .before .before .before .before .pre .0) .atoms) }
-
-loop-less : tie.Need-loop-less Inv-loop μ-loop
-loop-less c = search needs
 
 loop-again : tie.Need-loop-again Inv-loop μ-loop
 loop-again c =
     let at-try-literal = c .before .before .before .before in let at-loop = at-try-literal .before .before .before .before in
     let start = at-loop .before .before .before .before .before in
     (at-loop .loop .inv .0, omega arith, opening-next _ _ _ (start .pre .2) _ (at-loop .loop .inv .2) (at-try-literal .try-literal .ensures))
-
-same-length : tie.Need-same-length Inv-loop μ-loop
-same-length c = search needs
-
-same-length-2 : tie.Need-same-length-2 Inv-loop μ-loop
-same-length-2 c = search needs
 
 returns : tie.Need-returns Inv-loop μ-loop
 returns c =
@@ -58,14 +46,5 @@ pub write-initial-spec : {M : Type 1} → statement M
 write-initial-spec =
     tie.close
     (tie.spec
-    Inv-loop
-    μ-loop
-    mul-end
-    loop-holds
-    try-literal-requires
-    add-q
-    loop-less
-    loop-again
-    same-length
-    same-length-2
-    returns)
+    Inv-loop μ-loop mul-end loop-holds (λ c κs. search needs) add-q (λ c. search needs) loop-again (λ c. search needs)
+    (λ c. search needs) returns)

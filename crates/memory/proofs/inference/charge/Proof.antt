@@ -6,24 +6,6 @@ use borrow.Author.Needs.{needs}
 use Rattle.memory.proofs.inference.charge.Statement.{statement}
 use Rattle.memory.proofs.inference.charge.Tie as tie
 
-load-requires : tie.Need-load-requires
-load-requires c κs = search needs
-
-weigh-requires : tie.Need-weigh-requires
-weigh-requires c κs = search needs
-
-decides-requires : tie.Need-decides-requires
-decides-requires c κs = search needs
-
-load-requires-2 : tie.Need-load-requires-2
-load-requires-2 c κs = search needs
-
-weigh-requires-2 : tie.Need-weigh-requires-2
-weigh-requires-2 c κs = search needs
-
-add-result : tie.Need-add-result
-add-result c = search needs
-
 returns : tie.Need-returns
 returns c = (read-definite (view (c .before .before .before .before .args .mem .now)) _ _ (c .before .before .if1 .taken) (c .before .load .ensures) (c .weigh .ensures .0), omega arith)
 
@@ -36,11 +18,5 @@ pub charge-spec : {M : Type 1} → statement M
 charge-spec =
     tie.close
     (tie.spec
-    load-requires
-    weigh-requires
-    decides-requires
-    load-requires-2
-    weigh-requires-2
-    add-result
-    returns
-    returns-2)
+    (λ c κs. search needs) (λ c κs. search needs) (λ c κs. search needs) (λ c κs. search needs) (λ c κs. search needs)
+    (λ c. search needs) returns returns-2)

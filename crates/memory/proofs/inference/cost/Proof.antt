@@ -25,22 +25,10 @@ loop-holds c =
 load-use-requires : tie.Need-load-use-requires Inv-loop μ-loop
 load-use-requires c κs = (omega (arith, (c .before .loop .inv .2)), (c .before .before .before .before .pre .1 .invariant .room))
 
-cast-charge : tie.Need-cast-charge Inv-loop μ-loop
-cast-charge c = search needs
-
 charge-requires : tie.Need-charge-requires Inv-loop μ-loop
 charge-requires c κs =
     let at-loop = c .before .before in let start = at-loop .before .before .before in let pre = start .pre in
     (omega (arith, rule-used _ _ _ _ (pre .0) (pre .1) (pre .2) (pre .4) (at-loop .loop .k) (at-loop .loop .inv .0) (c .before .loop-test .taken)), (pre .1 .invariant .room))
-
-add-sum : tie.Need-add-sum Inv-loop μ-loop
-add-sum c = search needs
-
-add-k : tie.Need-add-k Inv-loop μ-loop
-add-k c = search needs
-
-loop-less : tie.Need-loop-less Inv-loop μ-loop
-loop-less c = search needs
 
 loop-again : tie.Need-loop-again Inv-loop μ-loop
 loop-again c =
@@ -63,14 +51,5 @@ pub cost-spec : {M : Type 1} → statement M
 cost-spec =
     tie.close
     (tie.spec
-    Inv-loop
-    μ-loop
-    loop-holds
-    load-use-requires
-    cast-charge
-    charge-requires
-    add-sum
-    add-k
-    loop-less
-    loop-again
-    returns)
+    Inv-loop μ-loop loop-holds load-use-requires (λ c. search needs) charge-requires (λ c. search needs) (λ c. search needs)
+    (λ c. search needs) loop-again returns)

@@ -6,25 +6,13 @@ use borrow.Author.Needs.{needs}
 use Rattle.memory.proofs.inference.defeasibly.Statement.{statement}
 use Rattle.memory.proofs.inference.defeasibly.Tie as tie
 
-is-processed-requires : tie.Need-is-processed-requires
-is-processed-requires c κs = search needs
-
 returns : tie.Need-returns
 returns c = defeasibly-definite (view (c .before .before .before .args .mem .now)) _ (c .before .is-processed .ensures) (c .if1 .taken)
-
-load-requires : tie.Need-load-requires
-load-requires c κs = search needs
 
 returns-2 : tie.Need-returns-2
 returns-2 c =
     let at-is-processed = c .before .before .before in let start = at-is-processed .before .before in
     defeasibly-unsupported (view (start .args .mem .now)) _ (at-is-processed .is-processed .ensures) (c .before .before .if1 .left) (c .before .load .ensures) (c .if2 .taken)
-
-other-requires : tie.Need-other-requires
-other-requires c κs = search needs
-
-is-processed-requires-2 : tie.Need-is-processed-requires-2
-is-processed-requires-2 c κs = search needs
 
 returns-3 : tie.Need-returns-3
 returns-3 c =
@@ -32,12 +20,6 @@ returns-3 c =
     let at-is-processed = at-if1 .before in let start = at-is-processed .before .before in
     defeasibly-opposed (view (start .args .mem .now)) _ (at-is-processed .is-processed .ensures) (at-if1 .if1 .left) (at-load .load .ensures) (at-if2 .if2 .left)
     (at-other .other .ensures) (c .before .is-processed2 .ensures) (not-true _ (c .if3 .taken))
-
-load-requires-2 : tie.Need-load-requires-2
-load-requires-2 c κs = search needs
-
-load-requires-3 : tie.Need-load-requires-3
-load-requires-3 c κs = search needs
 
 returns-4 : tie.Need-returns-4
 returns-4 c =
@@ -50,13 +32,5 @@ pub defeasibly-spec : {M : Type 1} → statement M
 defeasibly-spec =
     tie.close
     (tie.spec
-    is-processed-requires
-    returns
-    load-requires
-    returns-2
-    other-requires
-    is-processed-requires-2
-    returns-3
-    load-requires-2
-    load-requires-3
-    returns-4)
+    (λ c κs. search needs) returns (λ c κs. search needs) returns-2 (λ c κs. search needs) (λ c κs. search needs) returns-3
+    (λ c κs. search needs) (λ c κs. search needs) returns-4)

@@ -5,17 +5,11 @@ use borrow.Author.Needs.{needs}
 use Rattle.memory.proofs.inference.definitely.Statement.{statement}
 use Rattle.memory.proofs.inference.definitely.Tie as tie
 
-load-requires : tie.Need-load-requires
-load-requires c κs = search needs
-
-load-requires-2 : tie.Need-load-requires-2
-load-requires-2 c κs = search needs
-
-either-requires : tie.Need-either-requires
-either-requires c κs = search needs
-
 returns : tie.Need-returns
 returns c = read-definitely (view (c .before .before .before .before .args .mem .now)) _ (c .before .before .load .ensures) (c .before .load2 .ensures) (c .either .ensures)
 
 pub definitely-spec : {M : Type 1} → statement M
-definitely-spec = tie.close (tie.spec load-requires load-requires-2 either-requires returns)
+definitely-spec =
+    tie.close
+    (tie.spec
+    (λ c κs. search needs) (λ c κs. search needs) (λ c κs. search needs) returns)

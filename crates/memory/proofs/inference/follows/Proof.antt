@@ -13,14 +13,8 @@ use Rattle.memory.specs.Layout.{tagCount}
 eighth : (x a : ℕ) → x < tagCount * (2 * a) → x / tagCount < 2 * a
 eighth x a h = omega arith
 
-cast-definitely : tie.Need-cast-definitely
-cast-definitely c = search needs
-
 definitely-requires : tie.Need-definitely-requires
 definitely-requires c κs = (small-literal _ _ _ (c .before .before .before .pre .0) (eighth _ _ (c .before .before .before .pre .2)), c .before .before .before .pre .1 .invariant .room)
-
-cast-not-definitely : tie.Need-cast-not-definitely
-cast-not-definitely c = search needs
 
 not-definitely-requires : tie.Need-not-definitely-requires
 not-definitely-requires c κs = (small-literal _ _ _ (c .before .before .before .pre .0) (eighth _ _ (c .before .before .before .pre .2)), c .before .before .before .pre .1 .invariant .room)
@@ -60,13 +54,5 @@ pub follows-spec : {M : Type 1} → statement M
 follows-spec =
     tie.close
     (tie.spec
-    cast-definitely
-    definitely-requires
-    cast-not-definitely
-    not-definitely-requires
-    defeasibly-requires
-    not-defeasibly-requires
-    returns
-    returns-2
-    returns-3
-    returns-4)
+    (λ c. search needs) definitely-requires (λ c. search needs) not-definitely-requires defeasibly-requires not-defeasibly-requires
+    returns returns-2 returns-3 returns-4)

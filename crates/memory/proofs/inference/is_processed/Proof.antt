@@ -5,11 +5,11 @@ use borrow.Author.Needs.{needs}
 use Rattle.memory.proofs.inference.is_processed.Statement.{statement}
 use Rattle.memory.proofs.inference.is_processed.Tie as tie
 
-load-requires : tie.Need-load-requires
-load-requires c κs = search needs
-
 returns : tie.Need-returns
 returns c = ap (λ w. eqb w 2) (c .load .ensures)
 
 pub is-processed-spec : {M : Type 1} → statement M
-is-processed-spec = tie.close (tie.spec load-requires returns)
+is-processed-spec =
+    tie.close
+    (tie.spec
+    (λ c κs. search needs) returns)

@@ -6,17 +6,8 @@ use borrow.Author.Needs.{needs}
 use Rattle.memory.proofs.inference.not_defeasibly.Statement.{statement}
 use Rattle.memory.proofs.inference.not_defeasibly.Tie as tie
 
-is-processed-requires : tie.Need-is-processed-requires
-is-processed-requires c κs = search needs
-
 returns : tie.Need-returns
 returns c = not-defeasibly-open (view (c .before .before .before .args .mem .now)) _ (c .before .is-processed .ensures) (not-true _ (c .if1 .taken))
-
-load-requires : tie.Need-load-requires
-load-requires c κs = search needs
-
-load-requires-2 : tie.Need-load-requires-2
-load-requires-2 c κs = search needs
 
 returns-2 : tie.Need-returns-2
 returns-2 c =
@@ -24,21 +15,12 @@ returns-2 c =
     not-defeasibly-unsupported (view (start .args .mem .now)) _ (at-is-processed .is-processed .ensures) (not-false _ (at-if1 .if1 .left)) (at-load .load .ensures)
     (c .before .load2 .ensures) (c .if2 .taken)
 
-other-requires : tie.Need-other-requires
-other-requires c κs = search needs
-
-is-processed-requires-2 : tie.Need-is-processed-requires-2
-is-processed-requires-2 c κs = search needs
-
 returns-3 : tie.Need-returns-3
 returns-3 c =
     let at-other = c .before .before in let at-if2 = at-other .before in let at-load2 = at-if2 .before in let at-load = at-load2 .before in
     let at-if1 = at-load .before in let at-is-processed = at-if1 .before in let start = at-is-processed .before .before in
     not-defeasibly-refuted (view (start .args .mem .now)) _ (at-is-processed .is-processed .ensures) (not-false _ (at-if1 .if1 .left)) (at-load .load .ensures)
     (at-load2 .load2 .ensures) (at-if2 .if2 .left) (at-other .other .ensures) (c .before .is-processed2 .ensures) (c .if3 .taken)
-
-load-requires-3 : tie.Need-load-requires-3
-load-requires-3 c κs = search needs
 
 returns-4 : tie.Need-returns-4
 returns-4 c =
@@ -51,13 +33,5 @@ pub not-defeasibly-spec : {M : Type 1} → statement M
 not-defeasibly-spec =
     tie.close
     (tie.spec
-    is-processed-requires
-    returns
-    load-requires
-    load-requires-2
-    returns-2
-    other-requires
-    is-processed-requires-2
-    returns-3
-    load-requires-3
-    returns-4)
+    (λ c κs. search needs) returns (λ c κs. search needs) (λ c κs. search needs) returns-2 (λ c κs. search needs)
+    (λ c κs. search needs) returns-3 (λ c κs. search needs) returns-4)

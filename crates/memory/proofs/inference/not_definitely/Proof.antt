@@ -5,18 +5,6 @@ use borrow.Author.Needs.{needs}
 use Rattle.memory.proofs.inference.not_definitely.Statement.{statement}
 use Rattle.memory.proofs.inference.not_definitely.Tie as tie
 
-load-requires : tie.Need-load-requires
-load-requires c κs = search needs
-
-load-requires-2 : tie.Need-load-requires-2
-load-requires-2 c κs = search needs
-
-load-requires-3 : tie.Need-load-requires-3
-load-requires-3 c κs = search needs
-
-both-requires : tie.Need-both-requires
-both-requires c κs = search needs
-
 returns : tie.Need-returns
 returns c =
     let at-load = c .before .before .before in let start = at-load .before .before in
@@ -24,4 +12,6 @@ returns c =
 
 pub not-definitely-spec : {M : Type 1} → statement M
 not-definitely-spec =
-    tie.close (tie.spec load-requires load-requires-2 load-requires-3 both-requires returns)
+    tie.close
+    (tie.spec
+    (λ c κs. search needs) (λ c κs. search needs) (λ c κs. search needs) (λ c κs. search needs) returns)

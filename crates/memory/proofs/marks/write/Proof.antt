@@ -5,17 +5,8 @@ use borrow.Author.Needs.{needs}
 use Rattle.memory.proofs.marks.write.Statement.{statement}
 use Rattle.memory.proofs.marks.write.Tie as tie
 
-wide-requires : tie.Need-wide-requires
-wide-requires c κs = search needs
-
-wide-requires-2 : tie.Need-wide-requires-2
-wide-requires-2 c κs = search needs
-
 store-requires : tie.Need-store-requires
 store-requires c κs = let p = c .before .before .before .before .before .pre in (omega (arith, c .before .wide .ensures), omega (arith, c .wide2 .ensures, p .1, p .2), p .0 .invariant .room)
-
-same-length : tie.Need-same-length
-same-length c = search needs
 
 returns : tie.Need-returns
 returns c =
@@ -24,4 +15,7 @@ returns c =
     wrote-at _ _ _ (omega (arith, p .1, p .2)) (p .0) (p .3) (w .wide .ensures) (c .before .before .before .wide2 .ensures) (c .before .before .store .ensures)
 
 pub write-spec : {M : Type 1} → statement M
-write-spec = tie.close (tie.spec wide-requires wide-requires-2 store-requires same-length returns)
+write-spec =
+    tie.close
+    (tie.spec
+    (λ c κs. search needs) (λ c κs. search needs) store-requires (λ c. search needs) returns)

@@ -4,9 +4,6 @@ use borrow.Author.Needs.{needs}
 use Rattle.memory.proofs.prepare.fill.Statement.{statement}
 use Rattle.memory.proofs.prepare.fill.Tie as tie
 
-add-rules-requires : tie.Need-add-rules-requires
-add-rules-requires c κs = search needs
-
 mark-facts-requires : tie.Need-mark-facts-requires
 mark-facts-requires c κs = (c .before .before .before .before .before .before .before .pre .0, room-1 _ _ (c .before .before .before .before .before .before .before .pre .0) (c .before .before .before .before .before .before .before .pre .1) (c .before .before .before .add-rules .ensures), blank-facts _ _ (c .before .before .before .before .before .before .before .pre .0) (c .before .before .before .before .before .before .before .pre .1) (c .before .before .before .add-rules .ensures))
 
@@ -35,12 +32,5 @@ pub fill-spec : {M : Type 1} → statement M
 fill-spec =
     tie.close
     (tie.spec
-    add-rules-requires
-    mark-facts-requires
-    add-entries-requires
-    add-pairs-requires
-    mark-firsts-requires
-    begin-uses-requires
-    place-uses-requires
-    same-length
-    returns)
+    (λ c κs. search needs) mark-facts-requires add-entries-requires add-pairs-requires mark-firsts-requires begin-uses-requires
+    place-uses-requires same-length returns)

@@ -17,17 +17,8 @@ abbrev μ-loop : tie.MeasureT-loop
 loop-holds : tie.Need-loop-holds Inv-loop μ-loop
 loop-holds c = (omega arith, (c .before .before .pre .1))
 
-cast-start-rule : tie.Need-cast-start-rule Inv-loop μ-loop
-cast-start-rule c = search needs
-
 start-rule-requires : tie.Need-start-rule-requires Inv-loop μ-loop
 start-rule-requires c κs = ((c .before .before .before .before .before .before .pre .0), started-again _ _ _ (c .before .before .before .loop .inv .1), (c .before .if1 .taken))
-
-add-r : tie.Need-add-r Inv-loop μ-loop
-add-r c = search needs
-
-loop-less : tie.Need-loop-less Inv-loop μ-loop
-loop-less c = search needs
 
 loop-again : tie.Need-loop-again Inv-loop μ-loop
 loop-again c = (omega arith, started-on _ _ _ _ (c .before .before .before .before .before .before .loop .inv .1) (c .before .before .start-rule .ensures))
@@ -42,13 +33,5 @@ pub start-spec : {M : Type 1} → statement M
 start-spec =
     tie.close
     (tie.spec
-    Inv-loop
-    μ-loop
-    loop-holds
-    cast-start-rule
-    start-rule-requires
-    add-r
-    loop-less
-    loop-again
-    same-length
+    Inv-loop μ-loop loop-holds (λ c. search needs) start-rule-requires (λ c. search needs) (λ c. search needs) loop-again same-length
     returns)

@@ -15,9 +15,6 @@ reaches-requires c κs =
     let at-visit-definite = c .before .before .before in let start = at-visit-definite .before .before .before .before in
     reaches-asks _ _ _ _ _ (second-asks _ _ _ (start .pre .0) (start .pre .1) (start .pre .2) (at-visit-definite .visit-definite .ensures))
 
-same-length : tie.Need-same-length
-same-length c = search needs
-
 returns : tie.Need-returns
 returns c =
     let at-reaches = c .before .before .before in let at-visit-definite = at-reaches .before .before .before .before in
@@ -32,9 +29,6 @@ decide-requires c κs =
     decide-asks _ _ _ _ _ (second-asks _ _ _ (pre .0) (pre .1) (pre .2) (at-visit-definite .visit-definite .ensures)) _ (at-reaches .reaches .ensures)
     (not-false _ (c .before .if1 .left)) (omega arith)
 
-same-length-2 : tie.Need-same-length-2
-same-length-2 c = search needs
-
 returns-2 : tie.Need-returns-2
 returns-2 c =
     let at-decide = c .before .before in let at-reaches = at-decide .before .before .before .before .before in
@@ -46,10 +40,4 @@ pub start-rule-spec : {M : Type 1} → statement M
 start-rule-spec =
     tie.close
     (tie.spec
-    visit-definite-requires
-    reaches-requires
-    same-length
-    returns
-    decide-requires
-    same-length-2
-    returns-2)
+    visit-definite-requires reaches-requires (λ c. search needs) returns decide-requires (λ c. search needs) returns-2)

@@ -5,15 +5,6 @@ use borrow.Author.Needs.{needs}
 use Rattle.memory.proofs.uses.first_use.Statement.{statement}
 use Rattle.memory.proofs.uses.first_use.Tie as tie
 
-sub-load : tie.Need-sub-load
-sub-load c = search needs
-
-load-requires : tie.Need-load-requires
-load-requires c κs = search needs
-
-cast-result : tie.Need-cast-result
-cast-result c = search needs
-
 returns : tie.Need-returns
 returns c = first-none (view (c .before .before .args .mem .now)) _ (c .if1 .taken)
 
@@ -21,4 +12,7 @@ returns-2 : tie.Need-returns-2
 returns-2 c = first-some (view (c .before .before .before .args .mem .now)) _ (c .before .if1 .left) (c .load .ensures)
 
 pub first-use-spec : {M : Type 1} → statement M
-first-use-spec = tie.close (tie.spec sub-load load-requires cast-result returns returns-2)
+first-use-spec =
+    tie.close
+    (tie.spec
+    (λ c. search needs) (λ c κs. search needs) (λ c. search needs) returns returns-2)

@@ -5,12 +5,12 @@ use borrow.Author.Needs.{needs}
 use Rattle.memory.proofs.uses.head_of.Statement.{statement}
 use Rattle.memory.proofs.uses.head_of.Tie as tie
 
-load-requires : tie.Need-load-requires
-load-requires c κs = search needs
-
 returns : tie.Need-returns
 unfolding theoryIn
 returns c = c .load .ensures ∙ c .before .before .before .pre .0 .invariant .index .heads _ (c .before .before .before .pre .1)
 
 pub head-of-spec : {M : Type 1} → statement M
-head-of-spec = tie.close (tie.spec load-requires returns)
+head-of-spec =
+    tie.close
+    (tie.spec
+    (λ c κs. search needs) returns)

@@ -7,12 +7,12 @@ use borrow.Author.Needs.{needs}
 use Rattle.memory.proofs.uses.is_strict.Statement.{statement}
 use Rattle.memory.proofs.uses.is_strict.Tie as tie
 
-load-requires : tie.Need-load-requires
-load-requires c κs = search needs
-
 returns : tie.Need-returns
 unfolding theoryIn
 returns c = ap (λ w. eqb w 0) (c .load .ensures ∙ c .before .before .before .pre .0 .invariant .index .kinds _ (c .before .before .before .pre .1)) ∙ strict-number _
 
 pub is-strict-spec : {M : Type 1} → statement M
-is-strict-spec = tie.close (tie.spec load-requires returns)
+is-strict-spec =
+    tie.close
+    (tie.spec
+    (λ c κs. search needs) returns)

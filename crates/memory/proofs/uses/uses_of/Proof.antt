@@ -13,12 +13,12 @@ first-use-requires c κs = let p = c .before .before .pre in (small-literal _ _ 
 load-requires : tie.Need-load-requires
 load-requires c κs = let p = c .before .before .before .pre in (omega arith, small-literal _ _ _ (p .0) (p .2), p .1 .invariant .room)
 
-cast-end : tie.Need-cast-end
-cast-end c = search needs
-
 returns : tie.Need-returns
 unfolding theoryIn
 returns c = let p = c .before .before .before .before .pre in uses-read _ _ _ (p .1 .invariant .index) (p .2) (c .before .first-use .ensures) (c .load .ensures)
 
 pub uses-of-spec : {M : Type 1} → statement M
-uses-of-spec = tie.close (tie.spec first-use-requires load-requires cast-end returns)
+uses-of-spec =
+    tie.close
+    (tie.spec
+    first-use-requires load-requires (λ c. search needs) returns)

@@ -8,19 +8,10 @@ use Rattle.memory.proofs.visit.add.Tie as tie
 visit-uses-requires : tie.Need-visit-uses-requires
 visit-uses-requires c κs = let a = uses-asks _ _ _ _ _ _ refl refl (c .before .before .before .pre .0) in (a .0, (a .1 .0, a .1 .1, (c .before .before .before .pre .1)))
 
-wide-requires : tie.Need-wide-requires
-wide-requires c κs = search needs
-
-wide-requires-2 : tie.Need-wide-requires-2
-wide-requires-2 c κs = search needs
-
 store-requires : tie.Need-store-requires
 store-requires c κs =
     let at-visit-uses = c .before .before .before .before .before in let start = at-visit-uses .before .before .before .before in
     mark-asks _ _ _ _ _ _ refl refl (start .pre .0) _ _ _ (c .before .wide .ensures) (c .wide2 .ensures) (at-visit-uses .visit-uses .ensures)
-
-same-length : tie.Need-same-length
-same-length c = search needs
 
 returns : tie.Need-returns
 returns c =
@@ -31,4 +22,5 @@ returns c =
 pub add-spec : {M : Type 1} → statement M
 add-spec =
     tie.close
-    (tie.spec visit-uses-requires wide-requires wide-requires-2 store-requires same-length returns)
+    (tie.spec
+    visit-uses-requires (λ c κs. search needs) (λ c κs. search needs) store-requires (λ c. search needs) returns)

@@ -4,12 +4,6 @@ use borrow.Author.Needs.{needs}
 use Rattle.memory.proofs.visit.bump_if.Statement.{statement}
 use Rattle.memory.proofs.visit.bump_if.Tie as tie
 
-bump-requires : tie.Need-bump-requires
-bump-requires c κs = search needs
-
-same-length : tie.Need-same-length
-same-length c = search needs
-
 returns : tie.Need-returns
 returns c =
     let at-if1 = c .before .before .before .before in let start = at-if1 .before .before in
@@ -19,4 +13,7 @@ returns-2 : tie.Need-returns-2
 returns-2 c = raised-no _ _ _ _ (c .if1 .left)
 
 pub bump-if-spec : {M : Type 1} → statement M
-bump-if-spec = tie.close (tie.spec bump-requires same-length returns returns-2)
+bump-if-spec =
+    tie.close
+    (tie.spec
+    (λ c κs. search needs) (λ c. search needs) returns returns-2)

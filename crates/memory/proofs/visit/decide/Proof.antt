@@ -8,21 +8,6 @@ use borrow.Author.Needs.{needs}
 use Rattle.memory.proofs.visit.decide.Statement.{statement}
 use Rattle.memory.proofs.visit.decide.Tie as tie
 
-load-requires : tie.Need-load-requires
-load-requires c κs = search needs
-
-wide-requires : tie.Need-wide-requires
-wide-requires c κs = search needs
-
-load-requires-2 : tie.Need-load-requires-2
-load-requires-2 c κs = search needs
-
-is-free-requires : tie.Need-is-free-requires
-is-free-requires c κs = search needs
-
-sub-bump-if : tie.Need-sub-bump-if
-sub-bump-if c = search needs
-
 bump-if-requires : tie.Need-bump-if-requires
 unfolding theoryIn
 bump-if-requires c κs =
@@ -31,18 +16,12 @@ bump-if-requires c κs =
     decide-small _ _ _ _ (pre .0 .3) (pre .0 .4) (pre .0 .2) (pre .0 .1) ((at-wide .wide .ensures) ∙ (at-load .load .ensures)) (pre .0 .0) _ (omega (arith, (pre .0 .4)))
     (omega (arith, (pre .0 .3)))
 
-add-bump-if : tie.Need-add-bump-if
-add-bump-if c = search needs
-
 bump-if-requires-2 : tie.Need-bump-if-requires-2
 unfolding theoryIn
 bump-if-requires-2 c κs =
     let at-bump-if = c .before .before .before in let at-wide = at-bump-if .before .before .before .before .before .before in let at-load = at-wide .before in
     let start = at-load .before .before .before .before in let pre = start .pre in
     decide-small-next _ _ _ _ (pre .0 .3) (pre .0 .4) (pre .0 .2) (pre .0 .1) ((at-wide .wide .ensures) ∙ (at-load .load .ensures)) (pre .0 .0) (at-bump-if .bump-if .ensures)
-
-same-length : tie.Need-same-length
-same-length c = search needs
 
 returns : tie.Need-returns
 unfolding theoryIn
@@ -76,9 +55,6 @@ walk-requires-2 c κs =
     (not-false _ (at-if1 .if1 .left)) in
     ((pre .0 .0, pre .0 .2, omega arith, omega arith, w .0), ((w .1, w .2), (pre .1 .0, w .2 .room)))
 
-same-length-2 : tie.Need-same-length-2
-same-length-2 c = search needs
-
 returns-2 : tie.Need-returns-2
 unfolding theoryIn
 returns-2 c =
@@ -87,9 +63,6 @@ returns-2 c =
     let at-wide = at-load2 .before .before in let at-load = at-wide .before in let start = at-load .before .before .before .before in let pre = start .pre in
     decide-notified _ _ _ _ (pre .0 .3) (pre .0 .4) (pre .0 .2) (pre .0 .1) ((at-wide .wide .ensures) ∙ (at-load .load .ensures)) (at-load2 .load2 .ensures)
     (at-is-free .is-free .ensures) _ _ (at-bump-if .bump-if .ensures) (at-bump-if2 .bump-if2 .ensures) _ (not-false _ (at-if1 .if1 .left)) (at-walk .walk .ensures)
-
-same-length-3 : tie.Need-same-length-3
-same-length-3 c = search needs
 
 returns-3 : tie.Need-returns-3
 unfolding theoryIn
@@ -104,19 +77,6 @@ pub decide-spec : {M : Type 1} → statement M
 decide-spec =
     tie.close
     (tie.spec
-    load-requires
-    wide-requires
-    load-requires-2
-    is-free-requires
-    sub-bump-if
-    bump-if-requires
-    add-bump-if
-    bump-if-requires-2
-    same-length
-    returns
-    walk-requires
-    walk-requires-2
-    same-length-2
-    returns-2
-    same-length-3
-    returns-3)
+    (λ c κs. search needs) (λ c κs. search needs) (λ c κs. search needs) (λ c κs. search needs) (λ c. search needs) bump-if-requires
+    (λ c. search needs) bump-if-requires-2 (λ c. search needs) returns walk-requires walk-requires-2 (λ c. search needs) returns-2
+    (λ c. search needs) returns-3)

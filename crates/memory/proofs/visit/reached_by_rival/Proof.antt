@@ -4,30 +4,6 @@ use borrow.Author.Needs.{needs}
 use Rattle.memory.proofs.visit.reached_by_rival.Statement.{statement}
 use Rattle.memory.proofs.visit.reached_by_rival.Tie as tie
 
-load-requires : tie.Need-load-requires
-load-requires c κs = search needs
-
-load-requires-2 : tie.Need-load-requires-2
-load-requires-2 c κs = search needs
-
-both-requires : tie.Need-both-requires
-both-requires c κs = search needs
-
-load-requires-3 : tie.Need-load-requires-3
-load-requires-3 c κs = search needs
-
-load-requires-4 : tie.Need-load-requires-4
-load-requires-4 c κs = search needs
-
-load-requires-5 : tie.Need-load-requires-5
-load-requires-5 c κs = search needs
-
-load-requires-6 : tie.Need-load-requires-6
-load-requires-6 c κs = search needs
-
-both-requires-2 : tie.Need-both-requires-2
-both-requires-2 c κs = search needs
-
 returns : tie.Need-returns
 returns c = by-rival-two _ _ _ (c .before .before .before .if1 .taken) (c .before .before .load .ensures) (c .before .load2 .ensures) (c .both .ensures)
 
@@ -40,13 +16,5 @@ pub reached-by-rival-spec : {M : Type 1} → statement M
 reached-by-rival-spec =
     tie.close
     (tie.spec
-    load-requires
-    load-requires-2
-    both-requires
-    load-requires-3
-    load-requires-4
-    load-requires-5
-    load-requires-6
-    both-requires-2
-    returns
-    returns-2)
+    (λ c κs. search needs) (λ c κs. search needs) (λ c κs. search needs) (λ c κs. search needs) (λ c κs. search needs)
+    (λ c κs. search needs) (λ c κs. search needs) (λ c κs. search needs) returns returns-2)

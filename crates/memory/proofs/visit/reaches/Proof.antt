@@ -4,27 +4,6 @@ use borrow.Author.Needs.{needs}
 use Rattle.memory.proofs.visit.reaches.Statement.{statement}
 use Rattle.memory.proofs.visit.reaches.Tie as tie
 
-load-requires : tie.Need-load-requires
-load-requires c κs = search needs
-
-add-bump : tie.Need-add-bump
-add-bump c = search needs
-
-bump-requires : tie.Need-bump-requires
-bump-requires c κs = search needs
-
-add-load : tie.Need-add-load
-add-load c = search needs
-
-load-requires-2 : tie.Need-load-requires-2
-load-requires-2 c κs = search needs
-
-threshold-requires : tie.Need-threshold-requires
-threshold-requires c κs = search needs
-
-same-length : tie.Need-same-length
-same-length c = search needs
-
 returns : tie.Need-returns
 returns c =
     let at-bump = c .before .before .before .before .before in let at-load = at-bump .before .before in let start = at-load .before .before .before in
@@ -36,11 +15,5 @@ pub reaches-spec : {M : Type 1} → statement M
 reaches-spec =
     tie.close
     (tie.spec
-    load-requires
-    add-bump
-    bump-requires
-    add-load
-    load-requires-2
-    threshold-requires
-    same-length
-    returns)
+    (λ c κs. search needs) (λ c. search needs) (λ c κs. search needs) (λ c. search needs) (λ c κs. search needs)
+    (λ c κs. search needs) (λ c. search needs) returns)

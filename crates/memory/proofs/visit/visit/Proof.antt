@@ -8,17 +8,8 @@ use Rattle.memory.proofs.visit.visit.Tie as tie
 visit-definite-requires : tie.Need-visit-definite-requires
 visit-definite-requires c κs = definite-asks _ _ _ _ _ (c .before .before .before .before .pre) (c .before .if1 .taken)
 
-same-length : tie.Need-same-length
-same-length c = search needs
-
-returns : tie.Need-returns
-returns c = search needs
-
 reaches-requires : tie.Need-reaches-requires
 reaches-requires c κs = reaches-asks _ _ _ _ _ (c .before .before .before .before .pre)
-
-same-length-2 : tie.Need-same-length-2
-same-length-2 c = search needs
 
 returns-2 : tie.Need-returns-2
 returns-2 c = visit-undecided _ _ _ _ _ (c .before .before .before .before .before .before .before .before .pre) _ (c .before .before .before .reaches .ensures) (not-true _ (c .if2 .taken))
@@ -27,9 +18,6 @@ decide-requires : tie.Need-decide-requires
 decide-requires c κs =
     let at-reaches = c .before .before .before .before in let at-if1 = at-reaches .before .before in let start = at-if1 .before .before .before in
     decide-asks _ _ _ _ _ (start .pre) _ (at-reaches .reaches .ensures) (not-false _ (c .before .if2 .left)) (at-if1 .if1 .left)
-
-same-length-3 : tie.Need-same-length-3
-same-length-3 c = search needs
 
 returns-3 : tie.Need-returns-3
 returns-3 c =
@@ -40,12 +28,5 @@ pub visit-spec : {M : Type 1} → statement M
 visit-spec =
     tie.close
     (tie.spec
-    visit-definite-requires
-    same-length
-    returns
-    reaches-requires
-    same-length-2
-    returns-2
-    decide-requires
-    same-length-3
-    returns-3)
+    visit-definite-requires (λ c. search needs) (λ c. search needs) reaches-requires (λ c. search needs) returns-2 decide-requires
+    (λ c. search needs) returns-3)

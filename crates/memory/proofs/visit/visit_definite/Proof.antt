@@ -11,27 +11,12 @@ use Rattle.memory.proofs.visit.visit_definite.Tie as tie
 reaches-requires : tie.Need-reaches-requires
 reaches-requires c κs = ((c .before .before .before .pre .1 .0), omega (arith, (c .before .before .before .pre .0 .3)), (c .before .before .before .pre .1 .1), (c .before .before .before .pre .0 .4))
 
-same-length : tie.Need-same-length
-same-length c = search needs
-
 returns : tie.Need-returns
 unfolding theoryIn
 returns c =
     let at-reaches = c .before .before .before in let start = at-reaches .before .before .before .before in let pre = start .pre in
     undecided _ _ _ _ _ (omega (arith, (pre .0 .3))) (pre .0 .2) (pre .0 .1) (pre .0 .4) (at-reaches .reaches .ensures .0) (at-reaches .reaches .ensures .1)
     (not-true _ (c .if1 .taken))
-
-load-requires : tie.Need-load-requires
-load-requires c κs = search needs
-
-wide-requires : tie.Need-wide-requires
-wide-requires c κs = search needs
-
-load-requires-2 : tie.Need-load-requires-2
-load-requires-2 c κs = search needs
-
-add-bump-if : tie.Need-add-bump-if
-add-bump-if c = search needs
 
 bump-if-requires : tie.Need-bump-if-requires
 unfolding theoryIn
@@ -40,9 +25,6 @@ bump-if-requires c κs =
     let start = at-reaches .before .before .before .before in let pre = start .pre in
     definite-small _ _ _ _ _ (omega (arith, (pre .0 .3))) (pre .0 .2) (pre .0 .1) (pre .0 .4) (at-reaches .reaches .ensures .0) (at-reaches .reaches .ensures .1)
     (not-false _ (at-if1 .if1 .left)) ((at-wide .wide .ensures) ∙ (at-load .load .ensures)) (c .before .load2 .ensures) (pre .0 .0) (pre .0 .3)
-
-same-length-2 : tie.Need-same-length-2
-same-length-2 c = search needs
 
 returns-2 : tie.Need-returns-2
 unfolding theoryIn
@@ -57,13 +39,5 @@ pub visit-definite-spec : {M : Type 1} → statement M
 visit-definite-spec =
     tie.close
     (tie.spec
-    reaches-requires
-    same-length
-    returns
-    load-requires
-    wide-requires
-    load-requires-2
-    add-bump-if
-    bump-if-requires
-    same-length-2
-    returns-2)
+    reaches-requires (λ c. search needs) returns (λ c κs. search needs) (λ c κs. search needs) (λ c κs. search needs)
+    (λ c. search needs) bump-if-requires (λ c. search needs) returns-2)

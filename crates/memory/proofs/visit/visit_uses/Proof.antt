@@ -21,24 +21,12 @@ load-use-requires c κs =
     let start = c .before .before .before .before .before in
     use-asks-small _ _ _ _ _ (start .pre .0) (start .pre .1 .2) _ _ (c .before .before .loop .inv) (c .before .loop-test .taken)
 
-wide-requires : tie.Need-wide-requires Inv-loop μ-loop
-wide-requires c κs = search needs
-
-wide-requires-2 : tie.Need-wide-requires-2 Inv-loop μ-loop
-wide-requires-2 c κs = search needs
-
 visit-requires : tie.Need-visit-requires Inv-loop μ-loop
 visit-requires c κs =
     let at-load-use = c .before .before .before in let at-loop-test = at-load-use .before .before in let at-loop = at-loop-test .before in
     let start = at-loop .before .before .before in let pre = start .pre in
     asks-wide _ _ _ (c .before .wide .ensures) (c .wide2 .ensures)
     (visit-asks _ _ _ _ _ (pre .0) (pre .1 .2) _ _ (at-loop .loop .inv) (at-loop-test .loop-test .taken) _ (at-load-use .load-use .ensures))
-
-add-k : tie.Need-add-k Inv-loop μ-loop
-add-k c = search needs
-
-loop-less : tie.Need-loop-less Inv-loop μ-loop
-loop-less c = search needs
 
 loop-again : tie.Need-loop-again Inv-loop μ-loop
 loop-again c =
@@ -47,9 +35,6 @@ loop-again c =
     uses-next-of _ _ _ _ _ (pre .0) (pre .1 .2) _ _ (at-loop .loop .inv) (at-loop-test .loop-test .taken) _ (at-load-use .load-use .ensures) _
     (visit-wide _ _ _ (at-wide .wide .ensures) (at-wide2 .wide2 .ensures) _ (at-visit .visit .ensures))
 
-same-length : tie.Need-same-length Inv-loop μ-loop
-same-length c = search needs
-
 returns : tie.Need-returns Inv-loop μ-loop
 returns c = uses-end-of _ _ _ _ _ (c .before .before .before .before .pre .0) (c .before .before .before .before .pre .1 .2) _ _ (c .before .loop .inv) (c .loop-test .left)
 
@@ -57,15 +42,5 @@ pub visit-uses-spec : {M : Type 1} → statement M
 visit-uses-spec =
     tie.close
     (tie.spec
-    Inv-loop
-    μ-loop
-    loop-holds
-    load-use-requires
-    wide-requires
-    wide-requires-2
-    visit-requires
-    add-k
-    loop-less
-    loop-again
-    same-length
-    returns)
+    Inv-loop μ-loop loop-holds load-use-requires (λ c κs. search needs) (λ c κs. search needs) visit-requires (λ c. search needs)
+    (λ c. search needs) loop-again (λ c. search needs) returns)

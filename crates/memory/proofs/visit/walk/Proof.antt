@@ -15,37 +15,10 @@ Inv-loop table s mem₀ r t n q i₀ mem i = Walking (theoryIn table s) t r mem�
 abbrev μ-loop : tie.MeasureT-loop
 μ-loop table s mem₀ r t n q i₀ mem i = n - i
 
-wide-requires : tie.Need-wide-requires Inv-loop μ-loop
-wide-requires c κs = search needs
-
-load-requires : tie.Need-load-requires Inv-loop μ-loop
-load-requires c κs = search needs
-
-complement-requires : tie.Need-complement-requires Inv-loop μ-loop
-complement-requires c κs = search needs
-
-wide-requires-2 : tie.Need-wide-requires-2 Inv-loop μ-loop
-wide-requires-2 c κs = search needs
-
-load-requires-2 : tie.Need-load-requires-2 Inv-loop μ-loop
-load-requires-2 c κs = search needs
-
-wide-requires-3 : tie.Need-wide-requires-3 Inv-loop μ-loop
-wide-requires-3 c κs = search needs
-
 loop-holds : tie.Need-loop-holds Inv-loop μ-loop
 loop-holds c =
     let start = c .before .before .before .before .before .before .before .before .before .before in
     walk-start _ _ _ _ _ (start .pre .1 .0 .0) (start .pre .1 .0 .1) (c .wide3 .ensures ∙ c .before .load2 .ensures)
-
-read-pair-requires : tie.Need-read-pair-requires Inv-loop μ-loop
-read-pair-requires c κs = search needs
-
-wide-requires-4 : tie.Need-wide-requires-4 Inv-loop μ-loop
-wide-requires-4 c κs = search needs
-
-same-length : tie.Need-same-length Inv-loop μ-loop
-same-length c = search needs
 
 returns : tie.Need-returns Inv-loop μ-loop
 unfolding theoryIn
@@ -57,9 +30,6 @@ returns c =
           (λ _ e. c .if1 .taken (c .before .wide4 .ensures ∙ strong-read _ _ _ _ (at-read-pair .read-pair .ensures) ∙ e)),
     )
 
-wide-requires-5 : tie.Need-wide-requires-5 Inv-loop μ-loop
-wide-requires-5 c κs = search needs
-
 notify-requires : tie.Need-notify-requires Inv-loop μ-loop
 unfolding theoryIn
 notify-requires c κs =
@@ -69,12 +39,6 @@ notify-requires c κs =
     turn-asks _ (pre .0 .0) _ _ _ _ _ (at-loop .loop .inv) _ (pre .0 .2) (pre .0 .3) (omega (arith, at-loop-test .loop-test .taken, at-wide .wide .ensures))
     (sym (strong-read _ _ _ _ (at-read-pair .read-pair .ensures)) ∙ sym (at-wide4 .wide4 .ensures) ∙ at-if1 .if1 .left)
     (c .wide5 .ensures ∙ weak-read _ _ _ _ (at-read-pair .read-pair .ensures))
-
-add-i : tie.Need-add-i Inv-loop μ-loop
-add-i c = search needs
-
-loop-less : tie.Need-loop-less Inv-loop μ-loop
-loop-less c = search needs
 
 loop-again : tie.Need-loop-again Inv-loop μ-loop
 unfolding theoryIn
@@ -89,9 +53,6 @@ loop-again c =
     (opposite-is _ _ _ _ _ _ _ _ (pre .1 .0 .1) (pre .0 .1) (at-load .load .ensures) (at-complement .complement .ensures) (at-wide2 .wide2 .ensures)) _
     (at-notify .notify .ensures)
 
-same-length-2 : tie.Need-same-length-2 Inv-loop μ-loop
-same-length-2 c = search needs
-
 returns-2 : tie.Need-returns-2 Inv-loop μ-loop
 unfolding theoryIn
 returns-2 c =
@@ -102,23 +63,6 @@ pub walk-spec : {M : Type 1} → statement M
 walk-spec =
     tie.close
     (tie.spec
-    Inv-loop
-    μ-loop
-    wide-requires
-    load-requires
-    complement-requires
-    wide-requires-2
-    load-requires-2
-    wide-requires-3
-    loop-holds
-    read-pair-requires
-    wide-requires-4
-    same-length
-    returns
-    wide-requires-5
-    notify-requires
-    add-i
-    loop-less
-    loop-again
-    same-length-2
-    returns-2)
+    Inv-loop μ-loop (λ c κs. search needs) (λ c κs. search needs) (λ c κs. search needs) (λ c κs. search needs) (λ c κs. search needs)
+    (λ c κs. search needs) loop-holds (λ c κs. search needs) (λ c κs. search needs) (λ c. search needs) returns (λ c κs. search needs)
+    notify-requires (λ c. search needs) (λ c. search needs) loop-again (λ c. search needs) returns-2)

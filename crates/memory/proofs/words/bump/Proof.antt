@@ -7,22 +7,13 @@ use Rattle.memory.proofs.words.bump.Statement.{statement}
 use Rattle.memory.proofs.words.bump.Tie as tie
 use Rattle.memory.specs.Layout.{fieldSize}
 
-load-requires : tie.Need-load-requires
-load-requires c κs = search needs
-
-add-store : tie.Need-add-store
-add-store c = search needs
-
-store-requires : tie.Need-store-requires
-store-requires c κs = search needs
-
-same-length : tie.Need-same-length
-same-length c = search needs
-
 returns : tie.Need-returns
 returns c =
     let at-load = c .before .before .before .before in let start = at-load .before .before .before in
     c .before .before .store .ensures ∙ ap (λ n. set (start .args .mem .now) (fieldSize * start .args .field + start .args .i) (n + 1)) (at-load .load .ensures)
 
 pub bump-spec : {M : Type 1} → statement M
-bump-spec = tie.close (tie.spec load-requires add-store store-requires same-length returns)
+bump-spec =
+    tie.close
+    (tie.spec
+    (λ c κs. search needs) (λ c. search needs) (λ c κs. search needs) (λ c. search needs) returns)

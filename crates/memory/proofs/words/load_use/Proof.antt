@@ -5,17 +5,11 @@ use borrow.Author.Needs.{needs}
 use Rattle.memory.proofs.words.load_use.Statement.{statement}
 use Rattle.memory.proofs.words.load_use.Tie as tie
 
-add-result : tie.Need-add-result
-add-result c = search needs
-
-mul-result : tie.Need-mul-result
-mul-result c = search needs
-
-shared-slice-read-result : tie.Need-shared-slice-read-result
-shared-slice-read-result c = search needs
-
 returns : tie.Need-returns
 returns c = sym (use-in _ _ (c .before .pre .0))
 
 pub load-use-spec : {M : Type 1} → statement M
-load-use-spec = tie.close (tie.spec add-result mul-result shared-slice-read-result returns)
+load-use-spec =
+    tie.close
+    (tie.spec
+    (λ c. search needs) (λ c. search needs) (λ c. search needs) returns)

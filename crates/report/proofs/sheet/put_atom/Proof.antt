@@ -13,9 +13,6 @@ use Rattle.report.proofs.sheet.put_atom.Tie as tie
 put-number-requires : tie.Need-put-number-requires
 put-number-requires c κs = omega (arith, (c .before .before .pre), atom-parts (c .before .before .args .a) (meant (c .before .before .args .v)))
 
-slice-aggregate-put : tie.Need-slice-aggregate-put
-slice-aggregate-put c = search needs
-
 put-requires : tie.Need-put-requires
 put-requires c κs =
     let at-put-number = c .before .before .before .before in let start = at-put-number .before .before .before in
@@ -28,18 +25,12 @@ put-verdict-requires c κs =
     omega
     (arith, start .pre, atom-parts (args .a) (meant (args .v)), at-put-number .put-number .ensures .end, at-put-number .put-number .kept .0, at-put .put .ensures .end, (at-put .put .kept .0))
 
-slice-aggregate-put-2 : tie.Need-slice-aggregate-put-2
-slice-aggregate-put-2 c = search needs
-
 put-requires-2 : tie.Need-put-requires-2
 put-requires-2 c κs =
     let at-put-verdict = c .before .before .before .before in let at-put = at-put-verdict .before .before .before .before in
     let at-put-number = at-put .before .before .before .before .before in let start = at-put-number .before .before .before in let args = start .args in
     omega
     (arith, start .pre, atom-parts (args .a) (meant (args .v)), at-put-number .put-number .ensures .end, at-put-number .put-number .kept .0, at-put .put .ensures .end, at-put .put .kept .0, at-put-verdict .put-verdict .ensures .end, (at-put-verdict .put-verdict .kept .0))
-
-same-length : tie.Need-same-length
-same-length c = search needs
 
 returns : tie.Need-returns
 unfolding atomLine
@@ -56,11 +47,5 @@ pub put-atom-spec : {M : Type 1} → statement M
 put-atom-spec =
     tie.close
     (tie.spec
-    put-number-requires
-    slice-aggregate-put
-    put-requires
-    put-verdict-requires
-    slice-aggregate-put-2
-    put-requires-2
-    same-length
+    put-number-requires (λ c. search needs) put-requires put-verdict-requires (λ c. search needs) put-requires-2 (λ c. search needs)
     returns)

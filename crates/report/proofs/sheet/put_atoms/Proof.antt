@@ -21,20 +21,11 @@ abbrev μ-loop : tie.MeasureT-loop
 loop-holds : tie.Need-loop-holds Inv-loop μ-loop
 loop-holds c = (omega arith, refl, lines-none (verdict (taggedBy 4 (marked (c .before .before .args .marks .now)))) (c .before .before .args .out .now) (c .before .before .args .from))
 
-cast-verdict-of : tie.Need-cast-verdict-of Inv-loop μ-loop
-cast-verdict-of c = search needs
-
 verdict-of-requires : tie.Need-verdict-of-requires Inv-loop μ-loop
 verdict-of-requires c κs = omega arith
 
 put-atom-requires : tie.Need-put-atom-requires Inv-loop μ-loop
 put-atom-requires c κs = omega (arith, line-room (verdict (taggedBy 4 (marked (c .before .before .before .before .before .before .args .marks .now)))) (c .before .before .before .loop .a) (c .before .before .before .before .before .before .args .from) (c .before .before .before .loop .at) (meant (c .verdict-of .result)) (c .before .before .before .before .before .before .pre .0) (omega arith) (c .before .before .before .loop .inv .2 .end) (c .verdict-of .ensures), (c .before .before .before .loop .inv .1), (c .before .before .before .before .before .before .pre .2))
-
-add-a : tie.Need-add-a Inv-loop μ-loop
-add-a c = search needs
-
-loop-less : tie.Need-loop-less Inv-loop μ-loop
-loop-less c = search needs
 
 loop-again : tie.Need-loop-again Inv-loop μ-loop
 loop-again c = (omega arith, (c .before .before .put-atom .kept .0) ∙ (c .before .before .before .before .before .before .loop .inv .1), lines-next (verdict (taggedBy 4 (marked (c .before .before .before .before .before .before .before .before .before .args .marks .now)))) (c .before .before .before .before .before .before .loop .a) (c .before .before .before .before .before .before .before .before .before .pre .0) (omega arith) (c .before .before .before .before .before .before .before .before .before .pre .2) (c .before .before .before .before .before .before .loop .inv .2) (c .before .before .before .verdict-of .ensures) (c .before .before .put-atom .ensures))
@@ -49,14 +40,5 @@ pub put-atoms-spec : {M : Type 1} → statement M
 put-atoms-spec =
     tie.close
     (tie.spec
-    Inv-loop
-    μ-loop
-    loop-holds
-    cast-verdict-of
-    verdict-of-requires
-    put-atom-requires
-    add-a
-    loop-less
-    loop-again
-    same-length
-    returns)
+    Inv-loop μ-loop loop-holds (λ c. search needs) verdict-of-requires put-atom-requires (λ c. search needs) (λ c. search needs)
+    loop-again same-length returns)

@@ -9,9 +9,6 @@ use borrow.Author.Needs.{needs}
 use Rattle.report.proofs.sheet.put_count.Statement.{statement}
 use Rattle.report.proofs.sheet.put_count.Tie as tie
 
-slice-aggregate-put : tie.Need-slice-aggregate-put
-slice-aggregate-put c = search needs
-
 put-requires : tie.Need-put-requires
 put-requires c κs = omega (arith, (c .before .before .before .pre), count-parts (c .before .before .before .args .atoms))
 
@@ -20,17 +17,11 @@ put-number-requires c κs =
     let at-put = c .before .before .before in let start = at-put .before .before .before .before in
     omega (arith, (start .pre), count-parts (start .args .atoms), (at-put .put .ensures .end), (at-put .put .kept .0))
 
-slice-aggregate-put-2 : tie.Need-slice-aggregate-put-2
-slice-aggregate-put-2 c = search needs
-
 put-requires-2 : tie.Need-put-requires-2
 put-requires-2 c κs =
     let at-put-number = c .before .before .before .before in let at-put = at-put-number .before .before .before .before in
     let start = at-put .before .before .before .before in
     omega (arith, (start .pre), count-parts (start .args .atoms), (at-put .put .ensures .end), (at-put .put .kept .0), (at-put-number .put-number .ensures .end), (at-put-number .put-number .kept .0))
-
-same-length : tie.Need-same-length
-same-length c = search needs
 
 returns : tie.Need-returns
 unfolding countLine
@@ -44,10 +35,4 @@ pub put-count-spec : {M : Type 1} → statement M
 put-count-spec =
     tie.close
     (tie.spec
-    slice-aggregate-put
-    put-requires
-    put-number-requires
-    slice-aggregate-put-2
-    put-requires-2
-    same-length
-    returns)
+    (λ c. search needs) put-requires put-number-requires (λ c. search needs) put-requires-2 (λ c. search needs) returns)

@@ -11,29 +11,14 @@ use borrow.Author.Needs.{needs}
 use Rattle.report.proofs.sheet.put_run.Statement.{statement}
 use Rattle.report.proofs.sheet.put_run.Tie as tie
 
-cast-mark-lines : tie.Need-cast-mark-lines
-cast-mark-lines c = search needs
-
-slice-aggregate-mark-lines : tie.Need-slice-aggregate-mark-lines
-slice-aggregate-mark-lines c = search needs
-
-mark-lines-requires : tie.Need-mark-lines-requires
-mark-lines-requires c κs = search needs
-
 put-count-requires : tie.Need-put-count-requires
 put-count-requires c κs = omega (arith, count-length (c .before .before .before .before .before .before .before .args .atoms) (c .before .before .before .before .before .before .before .pre .0 .atoms), (c .before .before .before .before .before .before .before .pre .1))
-
-slice-aggregate-put-atoms : tie.Need-slice-aggregate-put-atoms
-slice-aggregate-put-atoms c = search needs
 
 put-atoms-requires : tie.Need-put-atoms-requires
 put-atoms-requires c κs = (omega (arith, count-length (c .before .before .before .before .before .before .before .before .before .before .before .before .args .atoms) (c .before .before .before .before .before .before .before .before .before .before .before .before .pre .0 .atoms), (c .before .before .before .before .put-count .ensures .end)), (c .before .before .before .before .before .before .before .before .before .before .before .before .pre .0 .atoms), (c .before .before .before .before .put-count .kept .0) ∙ (c .before .before .before .before .before .before .before .before .before .before .before .before .pre .1), (c .before .before .before .before .before .before .before .mark-lines .kept .1 .1 .0) ∙ length-replicate {A = ℕ} 4096 0)
 
 put-spent-requires : tie.Need-put-spent-requires
 put-spent-requires c κs = omega (arith, spent-length (c .before .before .before .before .before .before .before .before .before .before .before .before .before .before .before .before .args .c .spent) (c .before .before .before .before .before .before .before .before .before .before .before .before .before .before .before .before .args .most) (c .before .before .before .before .before .before .before .before .before .before .before .before .before .before .before .before .pre .0 .spent) (c .before .before .before .before .before .before .before .before .before .before .before .before .before .before .before .before .pre .0 .most), lines-room (verdict (taggedBy 4 (marked (c .before .before .before .before .before .before .before .before .before .before .before .mark-lines .last .1 .1 .0)))) (c .before .before .before .before .before .before .before .before .before .before .before .before .before .before .before .before .args .atoms) (c .before .before .before .before .before .before .before .before .put-count .result) (omega (arith, count-length (c .before .before .before .before .before .before .before .before .before .before .before .before .before .before .before .before .args .atoms) (c .before .before .before .before .before .before .before .before .before .before .before .before .before .before .before .before .pre .0 .atoms), (c .before .before .before .before .before .before .before .before .put-count .ensures .end))) (c .before .before .before .before .before .before .before .before .before .before .before .before .before .before .before .before .pre .0 .atoms), (c .before .before .before .put-atoms .ensures .end), (c .before .before .before .put-atoms .kept .0), (c .before .before .before .before .before .before .before .before .put-count .kept .0), (c .before .before .before .before .before .before .before .before .before .before .before .before .before .before .before .before .pre .1))
-
-same-length : tie.Need-same-length
-same-length c = search needs
 
 returns : tie.Need-returns
 returns c = put-run-parts (c .before .before .before .before .before .before .before .before .before .before .before .before .before .before .mark-lines .last .1 .1 .0) (c .before .before .before .before .before .before .before .before .before .before .before .before .before .before .before .before .before .before .before .args .log .now) (c .before .before .before .before .before .before .before .before .before .before .before .before .before .before .before .before .before .before .before .args .atoms) (c .before .before .before .before .before .before .before .before .before .before .before .before .before .before .before .before .before .before .before .args .c .lines) (c .before .before .before .before .before .before .before .before .before .before .before .before .before .before .before .before .before .before .before .args .c .spent) (c .before .before .before .before .before .before .before .before .before .before .before .before .before .before .before .before .before .before .before .args .most) (c .before .before .before .before .before .before .before .before .before .before .before .before .before .before .before .before .before .before .before .pre .0 .atoms) (c .before .before .before .before .before .before .before .before .before .before .before .before .before .before .before .before .before .before .before .pre .0 .spent) (c .before .before .before .before .before .before .before .before .before .before .before .before .before .before .before .before .before .before .before .pre .0 .most) (c .before .before .before .before .before .before .before .before .before .before .before .before .before .before .before .before .before .before .before .pre .1) (c .before .before .before .before .before .before .before .before .before .before .before .before .before .before .mark-lines .ensures) (c .before .before .before .before .before .before .before .before .before .before .before .put-count .ensures) (c .before .before .before .before .before .before .put-atoms .ensures) (c .before .before .put-spent .ensures)
@@ -42,12 +27,5 @@ pub put-run-spec : {M : Type 1} → statement M
 put-run-spec =
     tie.close
     (tie.spec
-    cast-mark-lines
-    slice-aggregate-mark-lines
-    mark-lines-requires
-    put-count-requires
-    slice-aggregate-put-atoms
-    put-atoms-requires
-    put-spent-requires
-    same-length
-    returns)
+    (λ c. search needs) (λ c. search needs) (λ c κs. search needs) put-count-requires (λ c. search needs) put-atoms-requires
+    put-spent-requires (λ c. search needs) returns)

@@ -9,17 +9,11 @@ use borrow.Author.Needs.{needs}
 use Rattle.report.proofs.sheet.put_spent.Statement.{statement}
 use Rattle.report.proofs.sheet.put_spent.Tie as tie
 
-slice-aggregate-put : tie.Need-slice-aggregate-put
-slice-aggregate-put c = search needs
-
 put-requires : tie.Need-put-requires
 put-requires c κs = omega (arith, (c .before .before .before .pre), spent-parts (c .before .before .before .args .spent) (c .before .before .before .args .most))
 
 put-number-requires : tie.Need-put-number-requires
 put-number-requires c κs = omega (arith, (c .before .before .before .before .before .before .before .pre), spent-parts (c .before .before .before .before .before .before .before .args .spent) (c .before .before .before .before .before .before .before .args .most), (c .before .before .before .put .ensures .end), (c .before .before .before .put .kept .0))
-
-slice-aggregate-put-2 : tie.Need-slice-aggregate-put-2
-slice-aggregate-put-2 c = search needs
 
 put-requires-2 : tie.Need-put-requires-2
 put-requires-2 c κs = omega (arith, (c .before .before .before .before .before .before .before .before .before .before .before .before .pre), spent-parts (c .before .before .before .before .before .before .before .before .before .before .before .before .args .spent) (c .before .before .before .before .before .before .before .before .before .before .before .before .args .most), (c .before .before .before .before .before .before .before .before .put .ensures .end), (c .before .before .before .before .before .before .before .before .put .kept .0), (c .before .before .before .before .put-number .ensures .end), (c .before .before .before .before .put-number .kept .0))
@@ -27,14 +21,8 @@ put-requires-2 c κs = omega (arith, (c .before .before .before .before .before 
 put-number-requires-2 : tie.Need-put-number-requires-2
 put-number-requires-2 c κs = omega (arith, (c .before .before .before .before .before .before .before .before .before .before .before .before .before .before .before .before .pre), spent-parts (c .before .before .before .before .before .before .before .before .before .before .before .before .before .before .before .before .args .spent) (c .before .before .before .before .before .before .before .before .before .before .before .before .before .before .before .before .args .most), (c .before .before .before .before .before .before .before .before .before .before .before .before .put .ensures .end), (c .before .before .before .before .before .before .before .before .before .before .before .before .put .kept .0), (c .before .before .before .before .before .before .before .before .put-number .ensures .end), (c .before .before .before .before .before .before .before .before .put-number .kept .0), (c .before .before .before .put2 .ensures .end), (c .before .before .before .put2 .kept .0))
 
-slice-aggregate-put-3 : tie.Need-slice-aggregate-put-3
-slice-aggregate-put-3 c = search needs
-
 put-requires-3 : tie.Need-put-requires-3
 put-requires-3 c κs = omega (arith, (c .before .before .before .before .before .before .before .before .before .before .before .before .before .before .before .before .before .before .before .before .before .pre), spent-parts (c .before .before .before .before .before .before .before .before .before .before .before .before .before .before .before .before .before .before .before .before .before .args .spent) (c .before .before .before .before .before .before .before .before .before .before .before .before .before .before .before .before .before .before .before .before .before .args .most), (c .before .before .before .before .before .before .before .before .before .before .before .before .before .before .before .before .before .put .ensures .end), (c .before .before .before .before .before .before .before .before .before .before .before .before .before .before .before .before .before .put .kept .0), (c .before .before .before .before .before .before .before .before .before .before .before .before .before .put-number .ensures .end), (c .before .before .before .before .before .before .before .before .before .before .before .before .before .put-number .kept .0), (c .before .before .before .before .before .before .before .before .put2 .ensures .end), (c .before .before .before .before .before .before .before .before .put2 .kept .0), (c .before .before .before .before .put-number2 .ensures .end), (c .before .before .before .before .put-number2 .kept .0))
-
-same-length : tie.Need-same-length
-same-length c = search needs
 
 returns : tie.Need-returns
 unfolding spentLine
@@ -47,13 +35,5 @@ pub put-spent-spec : {M : Type 1} → statement M
 put-spent-spec =
     tie.close
     (tie.spec
-    slice-aggregate-put
-    put-requires
-    put-number-requires
-    slice-aggregate-put-2
-    put-requires-2
-    put-number-requires-2
-    slice-aggregate-put-3
-    put-requires-3
-    same-length
-    returns)
+    (λ c. search needs) put-requires put-number-requires (λ c. search needs) put-requires-2 put-number-requires-2 (λ c. search needs)
+    put-requires-3 (λ c. search needs) returns)

@@ -8,20 +8,11 @@ use Rattle.report.proofs.text.put_digit.Reads as reads
 use Rattle.report.proofs.text.put_digit.Lts as lts
 use Rattle.report.proofs.text.ascii.Reads as ascii-reads
 
-ascii-requires : tie.Need-ascii-requires
-ascii-requires c κs = search needs
-
-slice-write-out : tie.Need-slice-write-out
-slice-write-out c = search needs
-
-add-result : tie.Need-add-result
-add-result c = search needs
-
-same-length : tie.Need-same-length
-same-length c = search needs
-
 returns : tie.Need-returns
 returns c = put-one (c .ascii .ensures) (omega arith)
 
 pub put-digit-spec : {M : Type 1} → statement M
-put-digit-spec = tie.close (tie.spec ascii-requires slice-write-out add-result same-length returns)
+put-digit-spec =
+    tie.close
+    (tie.spec
+    (λ c κs. search needs) (λ c. search needs) (λ c. search needs) (λ c. search needs) returns)

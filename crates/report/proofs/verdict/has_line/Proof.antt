@@ -7,12 +7,12 @@ use Rattle.report.proofs.verdict.has_line.Tie as tie
 use Rattle.report.proofs.verdict.has_line.Reads as reads
 use Rattle.report.proofs.verdict.has_line.Lts as lts
 
-shared-slice-read-result : tie.Need-shared-slice-read-result
-shared-slice-read-result c = search needs
-
 returns : tie.Need-returns
 unfolding marked
 returns c = refl
 
 pub has-line-spec : {M : Type 1} → statement M
-has-line-spec = tie.close (tie.spec shared-slice-read-result returns)
+has-line-spec =
+    tie.close
+    (tie.spec
+    (λ c. search needs) returns)

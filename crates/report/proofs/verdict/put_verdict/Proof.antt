@@ -9,23 +9,11 @@ use borrow.Author.Needs.{needs}
 use Rattle.report.proofs.verdict.put_verdict.Statement.{statement}
 use Rattle.report.proofs.verdict.put_verdict.Tie as tie
 
-enum-told : tie.Need-enum-told
-enum-told c = search needs
-
-slice-aggregate-put : tie.Need-slice-aggregate-put
-slice-aggregate-put c = search needs
-
 put-requires : tie.Need-put-requires
 unfolding meant wordOf
 put-requires c κs =
     let at-match = c .before .before .before in let start = at-match .before .before in
     subst (λ v. (start .args .at) + length (wordOf (meant v)) ≤ length (start .args .out .now)) (sym (is-go (start .args .v) (at-match .match .keys1))) (start .pre)
-
-enum-told-2 : tie.Need-enum-told-2
-enum-told-2 c = search needs
-
-slice-aggregate-put-2 : tie.Need-slice-aggregate-put-2
-slice-aggregate-put-2 c = search needs
 
 put-requires-2 : tie.Need-put-requires-2
 unfolding meant wordOf
@@ -33,32 +21,17 @@ put-requires-2 c κs =
     let at-match = c .before .before .before in let start = at-match .before .before in
     subst (λ v. (start .args .at) + length (wordOf (meant v)) ≤ length (start .args .out .now)) (sym (is-hold (start .args .v) (at-match .match .keys2))) (start .pre)
 
-enum-told-3 : tie.Need-enum-told-3
-enum-told-3 c = search needs
-
-slice-aggregate-put-3 : tie.Need-slice-aggregate-put-3
-slice-aggregate-put-3 c = search needs
-
 put-requires-3 : tie.Need-put-requires-3
 unfolding meant wordOf
 put-requires-3 c κs =
     let at-match = c .before .before .before in let start = at-match .before .before in
     subst (λ v. (start .args .at) + length (wordOf (meant v)) ≤ length (start .args .out .now)) (sym (is-split (start .args .v) (at-match .match .keys3))) (start .pre)
 
-enum-told-4 : tie.Need-enum-told-4
-enum-told-4 c = search needs
-
-slice-aggregate-put-4 : tie.Need-slice-aggregate-put-4
-slice-aggregate-put-4 c = search needs
-
 put-requires-4 : tie.Need-put-requires-4
 unfolding meant wordOf
 put-requires-4 c κs =
     let at-match = c .before .before .before in let start = at-match .before .before in
     subst (λ v. (start .args .at) + length (wordOf (meant v)) ≤ length (start .args .out .now)) (sym (is-open (start .args .v) (at-match .match .keys4))) (start .pre)
-
-same-length : tie.Need-same-length
-same-length c = search needs
 
 returns : tie.Need-returns
 unfolding meant wordOf
@@ -67,9 +40,6 @@ returns c =
     subst (λ v. Put (args .out .now) (args .at) (wordOf (meant v)) (at-put .put .last .0) (at-put .put .result)) (is-go (args .v) (at-match .match .keys1))
     (at-put .put .ensures)
 
-same-length-2 : tie.Need-same-length-2
-same-length-2 c = search needs
-
 returns-2 : tie.Need-returns-2
 unfolding meant wordOf
 returns-2 c =
@@ -77,18 +47,12 @@ returns-2 c =
     subst (λ v. Put (args .out .now) (args .at) (wordOf (meant v)) (at-put2 .put2 .last .0) (at-put2 .put2 .result)) (is-hold (args .v) (at-match .match .keys2))
     (at-put2 .put2 .ensures)
 
-same-length-3 : tie.Need-same-length-3
-same-length-3 c = search needs
-
 returns-3 : tie.Need-returns-3
 unfolding meant wordOf
 returns-3 c =
     let at-put3 = c .before .before in let at-match = at-put3 .before .before .before .before in let start = at-match .before .before in let args = start .args in
     subst (λ v. Put (args .out .now) (args .at) (wordOf (meant v)) (at-put3 .put3 .last .0) (at-put3 .put3 .result)) (is-split (args .v) (at-match .match .keys3))
     (at-put3 .put3 .ensures)
-
-same-length-4 : tie.Need-same-length-4
-same-length-4 c = search needs
 
 returns-4 : tie.Need-returns-4
 unfolding meant wordOf
@@ -101,23 +65,6 @@ pub put-verdict-spec : {M : Type 1} → statement M
 put-verdict-spec =
     tie.close
     (tie.spec
-    enum-told
-    slice-aggregate-put
-    put-requires
-    enum-told-2
-    slice-aggregate-put-2
-    put-requires-2
-    enum-told-3
-    slice-aggregate-put-3
-    put-requires-3
-    enum-told-4
-    slice-aggregate-put-4
-    put-requires-4
-    same-length
-    returns
-    same-length-2
-    returns-2
-    same-length-3
-    returns-3
-    same-length-4
-    returns-4)
+    (λ c. search needs) (λ c. search needs) put-requires (λ c. search needs) (λ c. search needs) put-requires-2 (λ c. search needs)
+    (λ c. search needs) put-requires-3 (λ c. search needs) (λ c. search needs) put-requires-4 (λ c. search needs) returns
+    (λ c. search needs) returns-2 (λ c. search needs) returns-3 (λ c. search needs) returns-4)

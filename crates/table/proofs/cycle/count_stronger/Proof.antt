@@ -19,20 +19,8 @@ abbrev μ-loop : tie.MeasureT-loop
 small : (c : tie.After-slice-known2 Inv-loop μ-loop) → c .before .before .pair-within .result .weaker < 1024
 small c = weak-small _ _ (c .before .before .before .before .before .before .before .before .pre .0) _ _ (c .before .before .before .loop-test .taken) (c .before .before .pair-within .ensures)
 
-cast-n : tie.Need-cast-n Inv-loop μ-loop
-cast-n c = search needs
-
 loop-holds : tie.Need-loop-holds Inv-loop μ-loop
 loop-holds c = (omega arith, c .before .before .before .pre .1, tally-none _ _ (c .before .before .before .pre .3))
-
-pair-within-requires : tie.Need-pair-within-requires Inv-loop μ-loop
-pair-within-requires c κs = search needs
-
-cast-w : tie.Need-cast-w Inv-loop μ-loop
-cast-w c = search needs
-
-mul-degree : tie.Need-mul-degree Inv-loop μ-loop
-mul-degree c = search needs
 
 slice-read-degree : tie.Need-slice-read-degree Inv-loop μ-loop
 slice-read-degree c = omega (arith, small c)
@@ -47,20 +35,11 @@ add-degree c =
 slice-write-degree : tie.Need-slice-write-degree Inv-loop μ-loop
 slice-write-degree c = omega (arith, small c)
 
-add-i : tie.Need-add-i Inv-loop μ-loop
-add-i c = search needs
-
-loop-less : tie.Need-loop-less Inv-loop μ-loop
-loop-less c = search needs
-
 loop-again : tie.Need-loop-again Inv-loop μ-loop
 unfolding theoryIn
 loop-again c =
     let at-loop = c .before .before .before .before in
     (omega arith, simp length-set (at-loop .loop .inv .1), tally-next _ _ _ _ (weak-read _ _ _ _ (c .before .before .pair-within .ensures)) (omega (arith, small c)) (at-loop .loop .inv .2))
-
-same-length : tie.Need-same-length Inv-loop μ-loop
-same-length c = search needs
 
 returns : tie.Need-returns Inv-loop μ-loop
 returns c = tally-all _ _ _ _ (c .before .loop .inv .0) (c .loop-test .left) (c .before .loop .inv .2) .at
@@ -69,18 +48,5 @@ pub count-stronger-spec : {M : Type 1} → statement M
 count-stronger-spec =
     tie.close
     (tie.spec
-    Inv-loop
-    μ-loop
-    cast-n
-    loop-holds
-    pair-within-requires
-    cast-w
-    mul-degree
-    slice-read-degree
-    add-degree
-    slice-write-degree
-    add-i
-    loop-less
-    loop-again
-    same-length
-    returns)
+    Inv-loop μ-loop (λ c. search needs) loop-holds (λ c κs. search needs) (λ c. search needs) (λ c. search needs) slice-read-degree
+    add-degree slice-write-degree (λ c. search needs) (λ c. search needs) loop-again (λ c. search needs) returns)

@@ -23,32 +23,11 @@ loop-holds : tie.Need-loop-holds Inv-loop μ-loop
 unfolding theoryIn
 loop-holds c = (omega arith, c .before .before .pre .1, runs-none (theoryIn (c .before .before .args .table .now) (c .before .before .args .s)) _ _ (omega arith))
 
-sub-i : tie.Need-sub-i Inv-loop μ-loop
-sub-i c = search needs
-
-cast-pair-within : tie.Need-cast-pair-within Inv-loop μ-loop
-cast-pair-within c = search needs
-
-pair-within-requires : tie.Need-pair-within-requires Inv-loop μ-loop
-pair-within-requires c κs = search needs
-
-cast-r : tie.Need-cast-r Inv-loop μ-loop
-cast-r c = search needs
-
-mul-first : tie.Need-mul-first Inv-loop μ-loop
-mul-first c = search needs
-
 slice-write-first : tie.Need-slice-write-first Inv-loop μ-loop
 slice-write-first c = omega (arith, small c)
 
-loop-less : tie.Need-loop-less Inv-loop μ-loop
-loop-less c = search needs
-
 loop-again : tie.Need-loop-again Inv-loop μ-loop
 loop-again c = (omega arith, simp length-set (c .before .before .before .loop .inv .1), runs-next _ _ _ _ (c .before .before .loop-test .taken) (strong-read _ _ _ _ (c .before .pair-within .ensures)) (omega (arith, small c)) (c .before .before .before .loop .inv .2))
-
-same-length : tie.Need-same-length Inv-loop μ-loop
-same-length c = search needs
 
 returns : tie.Need-returns Inv-loop μ-loop
 returns c = runs-all _ _ _ (omega arith) (c .before .loop .inv .2)
@@ -57,16 +36,5 @@ pub find-runs-spec : {M : Type 1} → statement M
 find-runs-spec =
     tie.close
     (tie.spec
-    Inv-loop
-    μ-loop
-    loop-holds
-    sub-i
-    cast-pair-within
-    pair-within-requires
-    cast-r
-    mul-first
-    slice-write-first
-    loop-less
-    loop-again
-    same-length
-    returns)
+    Inv-loop μ-loop loop-holds (λ c. search needs) (λ c. search needs) (λ c κs. search needs) (λ c. search needs) (λ c. search needs)
+    slice-write-first (λ c. search needs) loop-again (λ c. search needs) returns)

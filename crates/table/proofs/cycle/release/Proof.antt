@@ -33,38 +33,14 @@ of-rule c = sym (strong-read _ _ _ _ (c .before .before .pair-within .ensures)) 
 room : (c : tie.Else1 Inv-loop μ-loop) → c .before .before .before .before .loop .last < 1024
 room c = omega (arith, telling-room _ _ _ (within (c .before .before .before .before)) (c .before .before .before .before .before .before .before .before .before .before .before .before .before .before .pre .0 .0) _ _ _ _ (c .before .before .before .before .loop .inv .1) (below c) (of-rule c), c .before .before .before .before .before .before .before .before .before .before .before .before .before .before .pre .0 .0 .small)
 
-cast-n : tie.Need-cast-n Inv-loop μ-loop
-cast-n c = search needs
-
-mul-r : tie.Need-mul-r Inv-loop μ-loop
-mul-r c = search needs
-
-slice-read-r : tie.Need-slice-read-r Inv-loop μ-loop
-slice-read-r c = search needs
-
-wide-requires : tie.Need-wide-requires Inv-loop μ-loop
-wide-requires c κs = search needs
-
 mul-wide : tie.Need-mul-wide Inv-loop μ-loop
 mul-wide c = omega (arith, small c)
 
 shared-slice-read-wide : tie.Need-shared-slice-read-wide Inv-loop μ-loop
 shared-slice-read-wide c = omega (arith, small (c .before), c .before .before .before .before .before .before .before .before .pre .1)
 
-wide-requires-2 : tie.Need-wide-requires-2 Inv-loop μ-loop
-wide-requires-2 c κs = search needs
-
 loop-holds : tie.Need-loop-holds Inv-loop μ-loop
 loop-holds c = telling-start _ _ _ (omega (arith, c .before .before .before .before .before .before .before .before .before .pre .1)) _ _ _ _ _ (c .before .before .before .before .before .before .before .before .before .pre .0 .1) (c .before .before .before .before .before .before .before .before .before .pre .0 .2) (c .before .before .before .before .before .before .before .before .before .pre .1 .1) (c .before .before .before .before .before .before .before .before .before .pre .1 .2) (c .before .before .before .before .before .before .before .before .before .pre .1 .3) (c .before .before .before .before .before .before .before .before .before .pre .1 .4) (c .before .before .wide .ensures) (c .wide2 .ensures)
-
-pair-within-requires : tie.Need-pair-within-requires Inv-loop μ-loop
-pair-within-requires c κs = search needs
-
-same-length : tie.Need-same-length Inv-loop μ-loop
-same-length c = search needs
-
-same-length-2 : tie.Need-same-length-2 Inv-loop μ-loop
-same-length-2 c = search needs
 
 returns : tie.Need-returns Inv-loop μ-loop
 returns c = (c .before .before .before .before .loop .inv .1 .ahead, c .before .before .before .before .loop .inv .1 .most, telling-end _ _ _ (within (c .before .before .before .before)) (c .before .before .before .before .before .before .before .before .before .before .before .before .before .before .pre .0 .0) _ _ _ _ (c .before .before .before .before .loop .inv .1) _ (c .before .before .before .before .before .before .before .before .before .before .before .before .before .before .pre .0 .1) (c .before .before .before .before .loop .inv .0) (λ _ e. c .if1 .taken (strong-read _ _ _ _ (c .before .before .pair-within .ensures) ∙ e)))
@@ -72,20 +48,8 @@ returns c = (c .before .before .before .before .loop .inv .1 .ahead, c .before .
 tell-requires : tie.Need-tell-requires Inv-loop μ-loop
 tell-requires c κs = (omega (arith, weak-small _ _ (c .before .before .before .before .before .before .before .before .before .before .before .before .before .before .before .before .pre .0 .0) _ _ (c .before .before .before .before .before .loop-test .taken) (c .before .before .before .before .pair-within .ensures), c .before .before .before .before .before .before .loop .inv .1 .degrees), telling-waits _ _ _ (within (c .before .before .before .before .before .before)) (c .before .before .before .before .before .before .before .before .before .before .before .before .before .before .before .before .pre .0 .0) _ _ _ _ (c .before .before .before .before .before .before .loop .inv .1) (below (c .before .before)) (of-rule (c .before .before)) _ (weak-read _ _ _ _ (c .before .before .before .before .pair-within .ensures)), omega (arith, room (c .before .before), c .before .before .before .before .before .before .loop .inv .1 .places))
 
-add-i : tie.Need-add-i Inv-loop μ-loop
-add-i c = search needs
-
-loop-less : tie.Need-loop-less Inv-loop μ-loop
-loop-less c = search needs
-
 loop-again : tie.Need-loop-again Inv-loop μ-loop
 loop-again c = (omega (arith, c .before .before .before .before .before .before .before .before .before .before .before .loop .inv .0), telling-next _ _ _ (within (c .before .before .before .before .before .before .before .before .before .before .before)) (c .before .before .before .before .before .before .before .before .before .before .before .before .before .before .before .before .before .before .before .before .before .pre .0 .0) _ _ _ _ (c .before .before .before .before .before .before .before .before .before .before .before .loop .inv .1) (below (c .before .before .before .before .before .before .before)) (of-rule (c .before .before .before .before .before .before .before)) _ _ _ _ (weak-read _ _ _ _ (c .before .before .before .before .before .before .before .before .before .pair-within .ensures)) (c .before .before .before .before .tell .ensures .0) (c .before .before .before .before .tell .ensures .1) (c .before .before .before .before .tell .kept .1 .1 .0))
-
-same-length-3 : tie.Need-same-length-3 Inv-loop μ-loop
-same-length-3 c = search needs
-
-same-length-4 : tie.Need-same-length-4 Inv-loop μ-loop
-same-length-4 c = search needs
 
 returns-2 : tie.Need-returns-2 Inv-loop μ-loop
 unfolding theoryIn
@@ -95,24 +59,6 @@ pub release-spec : {M : Type 1} → statement M
 release-spec =
     tie.close
     (tie.spec
-    Inv-loop
-    μ-loop
-    cast-n
-    mul-r
-    slice-read-r
-    wide-requires
-    mul-wide
-    shared-slice-read-wide
-    wide-requires-2
-    loop-holds
-    pair-within-requires
-    same-length
-    same-length-2
-    returns
-    tell-requires
-    add-i
-    loop-less
-    loop-again
-    same-length-3
-    same-length-4
-    returns-2)
+    Inv-loop μ-loop (λ c. search needs) (λ c. search needs) (λ c. search needs) (λ c κs. search needs) mul-wide shared-slice-read-wide
+    (λ c κs. search needs) loop-holds (λ c κs. search needs) (λ c. search needs) (λ c. search needs) returns tell-requires
+    (λ c. search needs) (λ c. search needs) loop-again (λ c. search needs) (λ c. search needs) returns-2)

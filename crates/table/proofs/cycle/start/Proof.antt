@@ -18,31 +18,10 @@ abbrev μ-loop : tie.MeasureT-loop
 loop-holds : tie.Need-loop-holds Inv-loop μ-loop
 loop-holds c = (omega arith, omega arith, refl, zeros-none _ (c .before .before .args .queue .now))
 
-cast-push-if : tie.Need-cast-push-if Inv-loop μ-loop
-cast-push-if c = search needs
-
-mul-push-if : tie.Need-mul-push-if Inv-loop μ-loop
-mul-push-if c = search needs
-
-shared-slice-read-push-if : tie.Need-shared-slice-read-push-if Inv-loop μ-loop
-shared-slice-read-push-if c = search needs
-
-push-if-requires : tie.Need-push-if-requires Inv-loop μ-loop
-push-if-requires c κs = search needs
-
-add-r : tie.Need-add-r Inv-loop μ-loop
-add-r c = search needs
-
-loop-less : tie.Need-loop-less Inv-loop μ-loop
-loop-less c = search needs
-
 loop-again : tie.Need-loop-again Inv-loop μ-loop
 loop-again c =
     let at-loop = c .before .before .before .before .before .before in
     (omega arith, omega arith, c .before .before .push-if .kept .0 ∙ at-loop .loop .inv .2, zeros-next _ _ _ _ _ _ (at-loop .loop .inv .3) (c .before .before .push-if .ensures))
-
-same-length : tie.Need-same-length Inv-loop μ-loop
-same-length c = search needs
 
 returns : tie.Need-returns Inv-loop μ-loop
 returns c = (omega arith, zeros-all _ _ _ _ (c .before .loop .inv .0) (c .loop-test .left) (c .before .loop .inv .3))
@@ -51,15 +30,5 @@ pub start-spec : {M : Type 1} → statement M
 start-spec =
     tie.close
     (tie.spec
-    Inv-loop
-    μ-loop
-    loop-holds
-    cast-push-if
-    mul-push-if
-    shared-slice-read-push-if
-    push-if-requires
-    add-r
-    loop-less
-    loop-again
-    same-length
-    returns)
+    Inv-loop μ-loop loop-holds (λ c. search needs) (λ c. search needs) (λ c. search needs) (λ c κs. search needs) (λ c. search needs)
+    (λ c. search needs) loop-again (λ c. search needs) returns)

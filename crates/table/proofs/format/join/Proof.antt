@@ -4,14 +4,11 @@ use borrow.Author.Needs.{needs}
 use Rattle.table.proofs.format.join.Statement.{statement}
 use Rattle.table.proofs.format.join.Tie as tie
 
-mul-result : tie.Need-mul-result
-mul-result c = search needs
-
-add-result : tie.Need-add-result
-add-result c = search needs
-
 returns : tie.Need-returns
 returns c = refl
 
 pub join-spec : {M : Type 1} → statement M
-join-spec = tie.close (tie.spec mul-result add-result returns)
+join-spec =
+    tie.close
+    (tie.spec
+    (λ c. search needs) (λ c. search needs) returns)

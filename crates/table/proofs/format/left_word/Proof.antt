@@ -5,15 +5,6 @@ use borrow.Author.Needs.{needs}
 use Rattle.table.proofs.format.left_word.Statement.{statement}
 use Rattle.table.proofs.format.left_word.Tie as tie
 
-add-word : tie.Need-add-word
-add-word c = search needs
-
-add-word-2 : tie.Need-add-word-2
-add-word-2 c = search needs
-
-word-requires : tie.Need-word-requires
-word-requires c κs = search needs
-
 returns : tie.Need-returns
 unfolding leftIn
 returns c = simp (lt-ltb _ _ (c .before .if1 .taken)) (c .word .ensures)
@@ -23,4 +14,7 @@ unfolding leftIn
 returns-2 c = simp (le-ltb _ _ (c .if1 .left))
 
 pub left-word-spec : {M : Type 1} → statement M
-left-word-spec = tie.close (tie.spec add-word add-word-2 word-requires returns returns-2)
+left-word-spec =
+    tie.close
+    (tie.spec
+    (λ c. search needs) (λ c. search needs) (λ c κs. search needs) returns returns-2)

@@ -6,30 +6,6 @@ use borrow.Author.Needs.{needs}
 use Rattle.table.proofs.format.pair_within.Statement.{statement}
 use Rattle.table.proofs.format.pair_within.Tie as tie
 
-cast-from : tie.Need-cast-from
-cast-from c = search needs
-
-cast-from-2 : tie.Need-cast-from-2
-cast-from-2 c = search needs
-
-add-from : tie.Need-add-from
-add-from c = search needs
-
-cast-from-3 : tie.Need-cast-from-3
-cast-from-3 c = search needs
-
-add-from-2 : tie.Need-add-from-2
-add-from-2 c = search needs
-
-add-words-within : tie.Need-add-words-within
-add-words-within c = search needs
-
-words-within-requires : tie.Need-words-within-requires
-words-within-requires c κs = search needs
-
-pair-of-requires : tie.Need-pair-of-requires
-pair-of-requires c κs = search needs
-
 returns : tie.Need-returns
 returns c =
     let start = c .before .before .before .before .before .before in let pre = start .pre in let args = start .args in
@@ -39,12 +15,5 @@ pub pair-within-spec : {M : Type 1} → statement M
 pair-within-spec =
     tie.close
     (tie.spec
-    cast-from
-    cast-from-2
-    add-from
-    cast-from-3
-    add-from-2
-    add-words-within
-    words-within-requires
-    pair-of-requires
-    returns)
+    (λ c. search needs) (λ c. search needs) (λ c. search needs) (λ c. search needs) (λ c. search needs) (λ c. search needs)
+    (λ c κs. search needs) (λ c κs. search needs) returns)

@@ -5,17 +5,11 @@ use borrow.Author.Needs.{needs}
 use Rattle.table.proofs.format.read_rule.Statement.{statement}
 use Rattle.table.proofs.format.read_rule.Tie as tie
 
-cast-both-words : tie.Need-cast-both-words
-cast-both-words c = search needs
-
-both-words-requires : tie.Need-both-words-requires
-both-words-requires c κs = search needs
-
-kind-of-requires : tie.Need-kind-of-requires
-kind-of-requires c κs = search needs
-
 returns : tie.Need-returns
 returns c = λ k. record { kind = ((c .kind-of .ensures) ∙ ap kindOf (c .before .both-words .ensures .0)) k; head = record { 0 = (c .before .both-words .ensures .1) k } }
 
 pub read-rule-spec : {M : Type 1} → statement M
-read-rule-spec = tie.close (tie.spec cast-both-words both-words-requires kind-of-requires returns)
+read-rule-spec =
+    tie.close
+    (tie.spec
+    (λ c. search needs) (λ c κs. search needs) (λ c κs. search needs) returns)

@@ -3,21 +3,6 @@ use borrow.Author.Needs.{needs}
 use Rattle.table.proofs.format.read_sizes.Statement.{statement}
 use Rattle.table.proofs.format.read_sizes.Tie as tie
 
-word-requires : tie.Need-word-requires
-word-requires c κs = search needs
-
-word-requires-2 : tie.Need-word-requires-2
-word-requires-2 c κs = search needs
-
-word-requires-3 : tie.Need-word-requires-3
-word-requires-3 c κs = search needs
-
-word-requires-4 : tie.Need-word-requires-4
-word-requires-4 c κs = search needs
-
-word-requires-5 : tie.Need-word-requires-5
-word-requires-5 c κs = search needs
-
 returns : tie.Need-returns
 returns c =
     let at-word3 = c .before .before in let at-word2 = at-word3 .before in let at-word = at-word2 .before in
@@ -27,9 +12,4 @@ pub read-sizes-spec : {M : Type 1} → statement M
 read-sizes-spec =
     tie.close
     (tie.spec
-    word-requires
-    word-requires-2
-    word-requires-3
-    word-requires-4
-    word-requires-5
-    returns)
+    (λ c κs. search needs) (λ c κs. search needs) (λ c κs. search needs) (λ c κs. search needs) (λ c κs. search needs) returns)

@@ -7,18 +7,6 @@ use borrow.Author.Needs.{needs}
 use Rattle.table.proofs.judge.too_large.Statement.{statement}
 use Rattle.table.proofs.judge.too_large.Tie as tie
 
-either-requires : tie.Need-either-requires
-either-requires c κs = search needs
-
-either-requires-2 : tie.Need-either-requires-2
-either-requires-2 c κs = search needs
-
-either-requires-3 : tie.Need-either-requires-3
-either-requires-3 c κs = search needs
-
-either-requires-4 : tie.Need-either-requires-4
-either-requires-4 c κs = search needs
-
 returns : tie.Need-returns
 unfolding oversize
 returns c =
@@ -28,4 +16,5 @@ returns c =
 pub too-large-spec : {M : Type 1} → statement M
 too-large-spec =
     tie.close
-    (tie.spec either-requires either-requires-2 either-requires-3 either-requires-4 returns)
+    (tie.spec
+    (λ c κs. search needs) (λ c κs. search needs) (λ c κs. search needs) (λ c κs. search needs) returns)

@@ -23,26 +23,8 @@ Inv-inspection table s span found₀ k₀ found k = (found ≡ false) × (k ≤ 
 abbrev μ-inspection : tie.MeasureT-inspection
 μ-inspection table s span found₀ k₀ found k = 3 - k
 
-span-requires : tie.Need-span-requires Inv-loop μ-loop Inv-inspection μ-inspection
-span-requires c κs = search needs
-
 inspection-holds : tie.Need-inspection-holds Inv-loop μ-loop Inv-inspection μ-inspection
 inspection-holds c = (refl, omega arith, λ j h. absurd (omega arith))
-
-section-size-requires : tie.Need-section-size-requires Inv-loop μ-loop Inv-inspection μ-inspection
-section-size-requires c κs = search needs
-
-cast-n : tie.Need-cast-n Inv-loop μ-loop Inv-inspection μ-inspection
-cast-n c = search needs
-
-section-from-requires : tie.Need-section-from-requires Inv-loop μ-loop Inv-inspection μ-inspection
-section-from-requires c κs = search needs
-
-add-left : tie.Need-add-left Inv-loop μ-loop Inv-inspection μ-inspection
-add-left c = search needs
-
-add-right : tie.Need-add-right Inv-loop μ-loop Inv-inspection μ-inspection
-add-right c = search needs
 
 first-key-requires : tie.Need-first-key-requires Inv-loop μ-loop Inv-inspection μ-inspection
 first-key-requires c κs = (omega (arith, section-inside (c .before .before .before .before .before .before .args .s) (c .before .before .before .inspection .k), (c .section-from .ensures .0), (c .before .section-size .ensures), (c .before .before .before .before .span .ensures), (c .before .before .before .before .before .before .pre .0)), omega (arith, section-inside (c .before .before .before .before .before .before .args .s) (c .before .before .before .inspection .k), (c .section-from .ensures .0), (c .before .section-size .ensures), (c .before .before .before .before .span .ensures), (c .before .before .before .before .before .before .pre .0)), omega (arith, (c .section-from .ensures .1)), omega (arith, (c .section-from .ensures .1), (c .before .before .before .before .span .ensures)))
@@ -53,20 +35,8 @@ loop-holds c = ((c .before .before .before .before .inspection .inv .0), omega a
 key-requires : tie.Need-key-requires Inv-loop μ-loop Inv-inspection μ-inspection
 key-requires c κs = (omega (arith, section-inside (c .before .before .before .before .before .before .before .before .before .args .s) (c .before .before .before .before .before .before .inspection .k), (c .before .before .before .section-from .ensures .0), (c .before .before .before .before .section-size .ensures), (c .before .before .before .before .before .before .before .span .ensures), (c .before .before .before .before .before .before .before .before .before .pre .0), (c .loop-test .taken)), omega (arith, section-inside (c .before .before .before .before .before .before .before .before .before .args .s) (c .before .before .before .before .before .before .inspection .k), (c .before .before .before .section-from .ensures .0), (c .before .before .before .before .section-size .ensures), (c .before .before .before .before .before .before .before .span .ensures), (c .before .before .before .before .before .before .before .before .before .pre .0), (c .loop-test .taken)), omega (arith, (c .before .before .before .section-from .ensures .1)), omega (arith, (c .before .before .before .section-from .ensures .1), (c .before .before .before .before .before .before .before .span .ensures)), omega (arith, (c .loop-test .taken)))
 
-add-i : tie.Need-add-i Inv-loop μ-loop Inv-inspection μ-inspection
-add-i c = search needs
-
-loop-less : tie.Need-loop-less Inv-loop μ-loop Inv-inspection μ-inspection
-loop-less c = search needs
-
 loop-again : tie.Need-loop-again Inv-loop μ-loop Inv-inspection μ-inspection
 loop-again c = ((c .before .before .before .loop .inv .0), omega arith, λ h. omega arith, λ h. key-on (c .before .before .before .before .before .before .before .before .before .before .before .args .table .now) (c .before .before .before .before .before .before .before .before .before .before .before .args .s) (c .before .before .before .before .before .before .before .before .before .before .before .pre .1) (c .before .before .before .before .before .before .before .before .inspection .k) (c .before .before .before .before .before .section-from .result) (c .before .before .before .before .before .before .before .before .before .span .result) (c .before .before .before .before .before .section-from .ensures .0) (c .before .before .before .before .before .before .before .before .before .span .ensures) (c .before .before .before .loop .i) (c .before .key .ensures), rises-next (c .before .before .before .before .before .before .before .before .before .before .before .args .table .now) (c .before .before .before .before .before .before .before .before .before .before .before .args .s) (c .before .before .before .before .before .before .before .before .before .before .before .pre .1) (c .before .before .before .before .before .before .before .before .inspection .k) (c .before .before .before .before .before .section-from .result) (c .before .before .before .before .before .before .before .before .before .span .result) (c .before .before .before .before .before .section-from .ensures .0) (c .before .before .before .before .before .before .before .before .before .span .ensures) (c .before .before .before .loop .i) (c .before .before .before .loop .inv .1) (omega (arith, (c .before .before .loop-test .taken), (c .before .before .before .before .before .before .section-size .ensures))) ((c .before .before .before .loop .inv .3) (omega (arith, (c .before .before .loop-test .taken)))) (c .before .key .ensures) (c .if1 .left) (c .before .before .before .loop .inv .4))
-
-add-k : tie.Need-add-k Inv-loop μ-loop Inv-inspection μ-inspection
-add-k c = search needs
-
-inspection-less : tie.Need-inspection-less Inv-loop μ-loop Inv-inspection μ-inspection
-inspection-less c = search needs
 
 inspection-again : tie.Need-inspection-again Inv-loop μ-loop Inv-inspection μ-inspection
 inspection-again c = ((c .before .loop .inv .0), omega arith, in-order-next _ _ _ (c .before .before .before .before .before .before .inspection .inv .2) (λ j h. (c .before .loop .inv .4) j (omega (arith, (c .before .before .before .before .section-size .ensures)))))
@@ -81,25 +51,6 @@ pub unsorted-spec : {M : Type 1} → statement M
 unsorted-spec =
     tie.close
     (tie.spec
-    Inv-loop
-    μ-loop
-    Inv-inspection
-    μ-inspection
-    span-requires
-    inspection-holds
-    section-size-requires
-    cast-n
-    section-from-requires
-    add-left
-    add-right
-    first-key-requires
-    loop-holds
-    key-requires
-    add-i
-    loop-less
-    loop-again
-    add-k
-    inspection-less
-    inspection-again
-    returns
-    returns-2)
+    Inv-loop μ-loop Inv-inspection μ-inspection (λ c κs. search needs) inspection-holds (λ c κs. search needs) (λ c. search needs)
+    (λ c κs. search needs) (λ c. search needs) (λ c. search needs) first-key-requires loop-holds key-requires (λ c. search needs)
+    (λ c. search needs) loop-again (λ c. search needs) (λ c. search needs) inspection-again returns returns-2)

@@ -19,23 +19,8 @@ abbrev μ-loop : tie.MeasureT-loop
 loop-holds : tie.Need-loop-holds Inv-loop μ-loop
 loop-holds c = (omega arith, refl, scan-none (λ k. leb (c .before .args .limit) (word (c .before .args .table .now) ((c .before .args .base) + ((c .before .args .from) + k)))))
 
-add-word-within : tie.Need-add-word-within Inv-loop μ-loop
-add-word-within c = search needs
-
-add-word-within-2 : tie.Need-add-word-within-2 Inv-loop μ-loop
-add-word-within-2 c = search needs
-
 word-within-requires : tie.Need-word-within-requires Inv-loop μ-loop
 word-within-requires c κs = omega arith
-
-either-requires : tie.Need-either-requires Inv-loop μ-loop
-either-requires c κs = search needs
-
-add-i : tie.Need-add-i Inv-loop μ-loop
-add-i c = search needs
-
-loop-less : tie.Need-loop-less Inv-loop μ-loop
-loop-less c = search needs
 
 loop-again : tie.Need-loop-again Inv-loop μ-loop
 loop-again c =
@@ -57,14 +42,5 @@ pub any-at-least-spec : {M : Type 1} → statement M
 any-at-least-spec =
     tie.close
     (tie.spec
-    Inv-loop
-    μ-loop
-    loop-holds
-    add-word-within
-    add-word-within-2
-    word-within-requires
-    either-requires
-    add-i
-    loop-less
-    loop-again
-    returns)
+    Inv-loop μ-loop loop-holds (λ c. search needs) (λ c. search needs) word-within-requires (λ c κs. search needs) (λ c. search needs)
+    (λ c. search needs) loop-again returns)
