@@ -28,5 +28,6 @@ pub fn write(table: &[u8], s: Sizes, mem: &mut [u16], x: u16)
     requires { ⌜ Ready (theoryIn (now table) s) (now mem) × (s .atoms ≤ 512) × (x < tagCount * (2 * s .atoms)) × (writtenOf (now mem) x ≡ false) ⌝ }
     ensures { λ _. ⌜ Wrote (theoryIn (now (table .entry)) s) x (now (mem .entry)) (now (mem .exit)) ⌝ }
 {
-    store(mem, wide(x % TAGS), wide(x / TAGS), 1);
+    let i = wide(x);
+    store(mem, i % (TAGS as usize), i / (TAGS as usize), 1);
 }
