@@ -18,7 +18,7 @@ use Rattle.logic.proofs.Lists.{member-nil, member-left, member-last, member-sno
 use Rattle.logic.proofs.Sums.{weigh-true, weigh-false}
 use Rattle.logic.proofs.Pigeon.{count-le}
 use Rattle.table.specs.Pairs.{PairsInOrder}
-use Rattle.table.specs.Release.{toldBy, Runs, Zeros, Queued, Pushed}
+use Rattle.table.specs.Release.{removedBy, Runs, Zeros, Queued, Pushed}
 use Rattle.table.proofs.Kahn.{pushed, pushed-in, pushed-last, pushed-of, pushed-once, told-ext, step-waits, step-room, step}
 
 -- a push, and none
@@ -136,21 +136,21 @@ taken-in q next end h l =
     subst (λ m. T (member (getD q next 0) m)) (prefix (next + 1) end q (omega arith))
     (member-left (getD q next 0) (take (next + 1) q) _ (rw (add-one next, take-suc q next 0 l) (member-last (take next q) (getD q next 0))))
 
-pub taken-small : (d : Theory) (told : ℕ → Bool) (degree q : List ℕ) (next end r : ℕ) → PairsInOrder d → Queued d told degree (take end q)
+pub taken-small : (d : Theory) (removed : ℕ → Bool) (degree q : List ℕ) (next end r : ℕ) → PairsInOrder d → Queued d removed degree (take end q)
     → next < end → next < length q → r ≡ getD q next 0 → r < 1024
-taken-small d told degree q next end r o k h l e = omega (arith, k .zeros .below (getD q next 0) (taken-in q next end h l), o .small)
+taken-small d removed degree q next end r o k h l e = omega (arith, k .zeros .below (getD q next 0) (taken-in q next end h l), o .small)
 
 -- the whole queue was taken up
-pub queued-all : (d : Theory) (degree q queue : List ℕ) (next end : ℕ) → next ≤ end → end ≤ next → Queued d (toldBy d (take next queue)) degree q
-    → Queued d (toldBy d (take end queue)) degree q
-queued-all d degree q queue next end h l k = subst (λ z. Queued d (toldBy d (take z queue)) degree q) (le-antisymm h l) k
+pub queued-all : (d : Theory) (degree q queue : List ℕ) (next end : ℕ) → next ≤ end → end ≤ next → Queued d (removedBy d (take next queue)) degree q
+    → Queued d (removedBy d (take end queue)) degree q
+queued-all d degree q queue next end h l k = subst (λ z. Queued d (removedBy d (take z queue)) degree q) (le-antisymm h l) k
 
--- the pairs that are told while a rule r is taken up: those of the rules before it, and its own below i
+-- the pairs that are removed while a rule r is taken up: those of the rules before it, and its own below i
 abbrev pub toldTo : Theory → List ℕ → ℕ → ℕ → ℕ → Bool
 toldTo d l r i k = member (d .pair k .stronger) l or (eqb (d .pair k .stronger) r and ltb k i)
 
 -- how it stands while the rule at place `next` of the queue is taken up
-pub record Telling (d : Theory) (queue₀ : List ℕ) (next : ℕ) (degree queue : List ℕ) (last i : ℕ) : Type 0 where
+pub record Removing (d : Theory) (queue₀ : List ℕ) (next : ℕ) (degree queue : List ℕ) (last i : ℕ) : Type 0 where
   pub queued : Queued d (toldTo d (take next queue₀) (getD queue₀ next 0) i) degree (take last queue)
   pub same : take (next + 1) queue ≡ take (next + 1) queue₀
   pub degrees : length degree ≡ 1024
@@ -159,12 +159,12 @@ pub record Telling (d : Theory) (queue₀ : List ℕ) (next : ℕ) (degree queue
   pub most : last ≤ 1024
 
 module _ (d : Theory) (queue₀ : List ℕ) (next : ℕ) (fits : next < length queue₀) where
-  pub telling-start : (first degree : List ℕ) (end r i : ℕ) → Runs d first → Queued d (toldBy d (take next queue₀)) degree (take end queue₀)
+  pub removing-start : (first degree : List ℕ) (end r i : ℕ) → Runs d first → Queued d (removedBy d (take next queue₀)) degree (take end queue₀)
       → length degree ≡ 1024 → length queue₀ ≡ 1024 → next < end → end ≤ 1024 → r ≡ getD queue₀ next 0 → i ≡ getD first r 0
-      → (getD first (getD queue₀ next 0) 0 ≤ i) × Telling d queue₀ next degree queue₀ end i
-  telling-start first degree end r i runs q a b l m e f =
+      → (getD first (getD queue₀ next 0) 0 ≤ i) × Removing d queue₀ next degree queue₀ end i
+  removing-start first degree end r i runs q a b l m e f =
       let g : i ≡ getD first (getD queue₀ next 0) 0 = f ∙ ap (λ z. getD first z 0) e in
-      (omega arith, subst (λ z. Telling d queue₀ next degree queue₀ end z) (sym g) begun)
+      (omega arith, subst (λ z. Removing d queue₀ next degree queue₀ end z) (sym g) begun)
     where
       early : (k : ℕ) → k < d .pairs → T (eqb (d .pair k .stronger) (getD queue₀ next 0) and ltb k (getD first (getD queue₀ next 0) 0)) → ⊥
       early k h u =
@@ -173,7 +173,7 @@ module _ (d : Theory) (queue₀ : List ℕ) (next : ℕ) (fits : next < length q
           let g : getD first (d .pair k .stronger) 0 ≡ getD first (getD queue₀ next 0) 0 = ap (λ z. getD first z 0) e in
           omega (arith, runs .least k h)
 
-      begun : Telling d queue₀ next degree queue₀ end (getD first (getD queue₀ next 0) 0)
+      begun : Removing d queue₀ next degree queue₀ end (getD first (getD queue₀ next 0) 0)
       begun =
           record {
             queued =
@@ -186,26 +186,26 @@ module _ (d : Theory) (queue₀ : List ℕ) (next : ℕ) (fits : next < length q
             most = m;
           }
 
-  module _ (o : PairsInOrder d) (degree queue : List ℕ) (last i : ℕ) (k : Telling d queue₀ next degree queue last i) where
+  module _ (o : PairsInOrder d) (degree queue : List ℕ) (last i : ℕ) (k : Removing d queue₀ next degree queue last i) where
     up-to : take (next + 1) queue ≡ take next queue₀ ++ (getD queue₀ next 0 ∷ [])
     up-to = k .same ∙ rw add-one (take-suc queue₀ next 0 fits)
 
     whole : take next queue₀ ++ (getD queue₀ next 0 ∷ []) ++ drop (next + 1) (take last queue) ≡ take last queue
     whole = let h : next + 1 ≤ last = omega (arith, k .ahead) in ap (_++ drop (next + 1) (take last queue)) (sym up-to) ∙ prefix (next + 1) last queue h
 
-    pub telling-in : T (member (getD queue₀ next 0) (take last queue))
-    telling-in =
+    pub removing-in : T (member (getD queue₀ next 0) (take last queue))
+    removing-in =
         subst (λ l. T (member (getD queue₀ next 0) l)) whole
         (member-left (getD queue₀ next 0) (take next queue₀ ++ (getD queue₀ next 0 ∷ [])) _ (member-last (take next queue₀) (getD queue₀ next 0)))
 
-    telling-new : T (member (getD queue₀ next 0) (take next queue₀)) → ⊥
-    telling-new =
+    removing-new : T (member (getD queue₀ next 0) (take next queue₀)) → ⊥
+    removing-new =
         distinct-apart (take next queue₀) (getD queue₀ next 0) []
         (distinct-left _ (drop (next + 1) (take last queue)) (subst (λ l. T (distinct l)) (sym whole) (k .queued .zeros .once)))
 
-    pub telling-end : (first : List ℕ) → Runs d first → getD first (getD queue₀ next 0) 0 ≤ i → (i < d .pairs → d .pair i .stronger ≡ getD queue₀ next 0 → ⊥)
-        → Queued d (toldBy d (take (next + 1) queue)) degree (take last queue)
-    telling-end first runs from stop =
+    pub removing-end : (first : List ℕ) → Runs d first → getD first (getD queue₀ next 0) 0 ≤ i → (i < d .pairs → d .pair i .stronger ≡ getD queue₀ next 0 → ⊥)
+        → Queued d (removedBy d (take (next + 1) queue)) degree (take last queue)
+    removing-end first runs from stop =
         told-ext d _ _ degree (take last queue) (λ j h. test-eq _ _ (there j) (λ t. back j h (subst (λ l. T (member (d .pair j .stronger) l)) up-to t))) (k .queued)
       where
         there : (j : ℕ) → T (toldTo d (take next queue₀) (getD queue₀ next 0) i j) → T (member (d .pair j .stronger) (take (next + 1) queue))
@@ -234,18 +234,18 @@ module _ (d : Theory) (queue₀ : List ℕ) (next : ℕ) (fits : next < length q
     -- the i-th pair is the rule's
     module _ (h : i < d .pairs) (e : d .pair i .stronger ≡ getD queue₀ next 0) where
       in-queue : T (member (d .pair i .stronger) (take last queue))
-      in-queue = subst (λ z. T (member z (take last queue))) (sym e) telling-in
+      in-queue = subst (λ z. T (member z (take last queue))) (sym e) removing-in
 
       fresh : T (toldTo d (take next queue₀) (getD queue₀ next 0) i i) → ⊥
       fresh t =
-          ⊎-elim (λ u. telling-new (subst (λ z. T (member z (take next queue₀))) e u)) (λ u. lt-irrefl i (ltb→lt i i (and-right _ _ u))) (or-elim _ _ t)
+          ⊎-elim (λ u. removing-new (subst (λ z. T (member z (take next queue₀))) e u)) (λ u. lt-irrefl i (ltb→lt i i (and-right _ _ u))) (or-elim _ _ t)
 
-      pub telling-waits : (x : ℕ) → x ≡ d .pair i .weaker → 1 ≤ getD degree x 0
-      telling-waits x f =
+      pub removing-waits : (x : ℕ) → x ≡ d .pair i .weaker → 1 ≤ getD degree x 0
+      removing-waits x f =
           subst (λ z. 1 ≤ getD degree z 0) (sym f) (step-waits d o _ degree (take last queue) (k .queued) i h fresh in-queue)
 
-      pub telling-room : last < d .rules
-      telling-room =
+      pub removing-room : last < d .rules
+      removing-room =
           let m : last ≤ length queue = omega (arith, k .places, k .most) in
           omega (arith, step-room d o _ degree (take last queue) (k .queued) i h fresh in-queue, length-take-le last queue m)
 
@@ -255,10 +255,10 @@ module _ (d : Theory) (queue₀ : List ℕ) (next : ℕ) (fits : next < length q
           (λ t. lt→ltb j i (⊎-elim (λ l. l) (λ g. absurd (ne g)) (lt-suc-cases j i (subst (λ z. j < z) (add-one i) (ltb→lt j (i + 1) t)))))
           (λ t. let l = ltb→lt j i t in lt→ltb j (i + 1) (omega arith)))
 
-      telling-step : (degree' queue' : List ℕ) (last' : ℕ) → degree' ≡ set degree (d .pair i .weaker) (getD degree (d .pair i .weaker) 0 - 1)
+      removing-step : (degree' queue' : List ℕ) (last' : ℕ) → degree' ≡ set degree (d .pair i .weaker) (getD degree (d .pair i .weaker) 0 - 1)
           → Pushed (eqb (getD degree (d .pair i .weaker) 0 - 1) 0) (d .pair i .weaker) queue last queue' last' → length queue' ≡ length queue
-          → Telling d queue₀ next degree' queue' last' (i + 1)
-      telling-step degree' queue' last' f p g =
+          → Removing d queue₀ next degree' queue' last' (i + 1)
+      removing-step degree' queue' last' f p g =
           record {
             queued =
                 subst (λ l. Queued d (toldTo d (take next queue₀) (getD queue₀ next 0) (i + 1)) l (take last' queue')) (sym f)
@@ -270,15 +270,15 @@ module _ (d : Theory) (queue₀ : List ℕ) (next : ℕ) (fits : next < length q
             degrees = ap length f ∙ length-set degree (d .pair i .weaker) (getD degree (d .pair i .weaker) 0 - 1) ∙ k .degrees;
             places = g ∙ k .places;
             ahead = omega (arith, k .ahead, p .more);
-            most = omega (arith, telling-room, p .most, o .small);
+            most = omega (arith, removing-room, p .most, o .small);
           }
         where
           below : d .pair i .weaker < length degree
           below = omega (arith, k .degrees, o .weak i h, o .small)
 
-      pub telling-next : (x : ℕ) (degree' queue' : List ℕ) (last' : ℕ) → x ≡ d .pair i .weaker → degree' ≡ set degree x (getD degree x 0 - 1)
+      pub removing-next : (x : ℕ) (degree' queue' : List ℕ) (last' : ℕ) → x ≡ d .pair i .weaker → degree' ≡ set degree x (getD degree x 0 - 1)
           → Pushed (eqb (getD degree x 0 - 1) 0) x queue last queue' last' → length queue' ≡ length queue
-          → Telling d queue₀ next degree' queue' last' (i + 1)
-      telling-next x degree' queue' last' w f p g =
-          telling-step degree' queue' last' (subst (λ z. degree' ≡ set degree z (getD degree z 0 - 1)) w f)
+          → Removing d queue₀ next degree' queue' last' (i + 1)
+      removing-next x degree' queue' last' w f p g =
+          removing-step degree' queue' last' (subst (λ z. degree' ≡ set degree z (getD degree z 0 - 1)) w f)
           (subst (λ z. Pushed (eqb (getD degree z 0 - 1) 0) z queue last queue' last') w p) g

@@ -19,7 +19,7 @@ use Rattle.logic.proofs.Sums.{total-ext, total-zero, total-const, total-point, 
 use Rattle.logic.proofs.Pigeon.{distinct-count, pigeon}
 use Rattle.logic.proofs.Cycle.{cycle-next, set-has-cycle, cycle-flip, cyclic-sound, cyclic-complete}
 use Rattle.table.specs.Pairs.{PairsInOrder}
-use Rattle.table.specs.Release.{waits, toldBy, Zeros, inferior, Queued}
+use Rattle.table.specs.Release.{waits, removedBy, Zeros, inferior, Queued}
 
 -- a count of 0 passes nowhere, and another one somewhere
 pub count-none : (n : ℕ) (p : ℕ → Bool) → countBelow n p ≡ 0 → (k : ℕ) → k < n → T (p k) → ⊥
@@ -93,35 +93,35 @@ clean-next d w f l =
     let (i, h, e, g) = superior-of d t w p in
     f i h g (subst (λ z. Leads (inferior d) z z) (sym e) m)
 
--- only which of the pairs are told matters
-pub told-ext : (d : Theory) (told told' : ℕ → Bool) (degree q : List ℕ) → ((i : ℕ) → i < d .pairs → told i ≡ told' i)
-    → Queued d told degree q → Queued d told' degree q
-told-ext d told told' degree q e k =
+-- only which of the pairs are removed matters
+pub told-ext : (d : Theory) (removed told' : ℕ → Bool) (degree q : List ℕ) → ((i : ℕ) → i < d .pairs → removed i ≡ told' i)
+    → Queued d removed degree q → Queued d told' degree q
+told-ext d removed told' degree q e k =
     record {
       zeros = k .zeros;
       counts = λ w h. k .counts w h ∙ total-ext _ _ _ (λ i l. ap (λ t. weigh (eqb (d .pair i .weaker) w and isnt t) 1) (e i l));
-      heard = λ i h t. k .heard i h (subst T (sym (e i h)) t);
+      queued = λ i h t. k .queued i h (subst T (sym (e i h)) t);
       clean = k .clean;
     }
 
--- the start: nothing is told, and the queue holds the rules that no pair names as the weaker
+-- the start: nothing is removed, and the queue holds the rules that no pair names as the weaker
 pub queued-start : (d : Theory) → PairsInOrder d → (degree q : List ℕ) → Zeros (d .rules) degree q
-    → ((w : ℕ) → w < d .rules → getD degree w 0 ≡ countBelow (d .pairs) (λ i. eqb (d .pair i .weaker) w)) → Queued d (toldBy d []) degree q
+    → ((w : ℕ) → w < d .rules → getD degree w 0 ≡ countBelow (d .pairs) (λ i. eqb (d .pair i .weaker) w)) → Queued d (removedBy d []) degree q
 queued-start d o degree q z e =
     record {
       zeros = z;
       counts =
           λ w h. e w h
           ∙ total-ext _ _ _ (λ i l. ap (λ t. weigh t 1) (test-eq _ _ (λ t. and-intro _ _ t (isnt-intro _ (member-nil _))) (λ t. and-left _ _ t)));
-      heard = λ i h t. absurd (member-nil _ t);
+      queued = λ i h t. absurd (member-nil _ t);
       clean =
           λ w m. clean-next d w (λ i h g _. count-none _ _ (sym (e w (z .below w m)) ∙ z .none w m) i h (eq→eqb _ _ g));
     }
 
--- One step: a pair is told whose stronger rule is in the queue, so its weaker rule waits for one less, and is put into the queue
+-- One step: a pair is removed whose stronger rule is in the queue, so its weaker rule waits for one less, and is put into the queue
 -- if it waits for none.
-module _ (d : Theory) (o : PairsInOrder d) (told : ℕ → Bool) (degree q : List ℕ) (k : Queued d told degree q) (i : ℕ) (h : i < d .pairs)
-    (new : T (told i) → ⊥) (m : T (member (d .pair i .stronger) q)) where
+module _ (d : Theory) (o : PairsInOrder d) (removed : ℕ → Bool) (degree q : List ℕ) (k : Queued d removed degree q) (i : ℕ) (h : i < d .pairs)
+    (new : T (removed i) → ⊥) (m : T (member (d .pair i .stronger) q)) where
   pub step-waits : 1 ≤ getD degree (d .pair i .weaker) 0
   step-waits =
       ⊎-elim (λ l. l)
@@ -135,7 +135,7 @@ module _ (d : Theory) (o : PairsInOrder d) (told : ℕ → Bool) (degree q : Lis
   pub step-room : length q < d .rules
   step-room = lacking (d .rules) q (k .zeros .once) (k .zeros .below) (d .pair i .weaker) (o .weak i h) step-out
 
-  module _ (told' : ℕ → Bool) (now : T (told' i)) (other : (j : ℕ) → j < d .pairs → (j ≡ i → ⊥) → told' j ≡ told j)
+  module _ (told' : ℕ → Bool) (now : T (told' i)) (other : (j : ℕ) → j < d .pairs → (j ≡ i → ⊥) → told' j ≡ removed j)
       (fits : d .pair i .weaker < length degree) (left : ℕ) (e : left ≡ getD degree (d .pair i .weaker) 0 - 1) where
     at-weaker : getD (set degree (d .pair i .weaker) left) (d .pair i .weaker) 0 ≡ left
     at-weaker = getD-set-same degree (d .pair i .weaker) left 0 fits
@@ -143,17 +143,17 @@ module _ (d : Theory) (o : PairsInOrder d) (told : ℕ → Bool) (degree q : Lis
     at-other : (w : ℕ) → (w ≡ d .pair i .weaker → ⊥) → getD (set degree (d .pair i .weaker) left) w 0 ≡ getD degree w 0
     at-other w ne = getD-set-other degree (d .pair i .weaker) w left 0 ne
 
-    counts-same : (w : ℕ) → w ≡ d .pair i .weaker → waits d told w ≡ waits d told' w + 1
+    counts-same : (w : ℕ) → w ≡ d .pair i .weaker → waits d removed w ≡ waits d told' w + 1
     counts-same w g =
         total-point _ _ _ i 1 h
         (omega (
           arith,
-          weigh-true (eqb (d .pair i .weaker) w and isnt (told i)) 1 (and-intro _ _ (eq→eqb _ _ (sym g)) (isnt-intro _ new)),
+          weigh-true (eqb (d .pair i .weaker) w and isnt (removed i)) 1 (and-intro _ _ (eq→eqb _ _ (sym g)) (isnt-intro _ new)),
           weigh-false (eqb (d .pair i .weaker) w and isnt (told' i)) 1 (λ t. isnt-elim _ (and-right _ _ t) now),
         ))
         (λ j l ne. ap (λ t. weigh (eqb (d .pair j .weaker) w and isnt t) 1) (sym (other j l ne)))
 
-    counts-other : (w : ℕ) → (w ≡ d .pair i .weaker → ⊥) → waits d told w ≡ waits d told' w
+    counts-other : (w : ℕ) → (w ≡ d .pair i .weaker → ⊥) → waits d removed w ≡ waits d told' w
     counts-other w ne =
         total-ext _ _ _ (λ j l. ⊎-elim
         (λ t. let g = eqb→eq j i t in
@@ -170,11 +170,11 @@ module _ (d : Theory) (o : PairsInOrder d) (told : ℕ → Bool) (degree q : Lis
         (λ n. let ne : (w ≡ d .pair i .weaker) → ⊥ = λ g. n (eq→eqb _ _ g) in at-other w ne ∙ k .counts w b ∙ counts-other w ne)
         (test-cases (eqb w (d .pair i .weaker)))
 
-    -- every pair that is told now has its stronger rule in the queue as it was
+    -- every pair that is removed now has its stronger rule in the queue as it was
     told-in : (j : ℕ) → j < d .pairs → T (told' j) → T (member (d .pair j .stronger) q)
     told-in j l t =
         ⊎-elim (λ u. subst (λ z. T (member (d .pair z .stronger) q)) (sym (eqb→eq j i u)) m)
-        (λ n. k .heard j l (subst T (other j l (λ g. n (eq→eqb j i g))) t)) (test-cases (eqb j i))
+        (λ n. k .queued j l (subst T (other j l (λ g. n (eq→eqb j i g))) t)) (test-cases (eqb j i))
 
     none-next : (w : ℕ) → T (member w (pushed (eqb left 0) q (d .pair i .weaker))) → getD (set degree (d .pair i .weaker) left) w 0 ≡ 0
     none-next w u =
@@ -213,14 +213,14 @@ module _ (d : Theory) (o : PairsInOrder d) (told : ℕ → Bool) (degree q : Lis
                 whole = whole-next;
               };
           counts = counts-next;
-          heard = λ j l t. pushed-in (eqb left 0) q (d .pair i .weaker) _ (told-in j l t);
+          queued = λ j l t. pushed-in (eqb left 0) q (d .pair i .weaker) _ (told-in j l t);
           clean =
               λ w u. ⊎-elim (k .clean w)
               (λ v. subst (λ z. Leads (inferior d) z z → ⊥) (sym (v .1)) (clean-pushed (v .0))) (pushed-of (eqb left 0) q (d .pair i .weaker) w u);
         }
 
 -- The end: the rules of the queue were all taken up. Where they are fewer than the rules, the others have a cycle.
-module _ (d : Theory) (o : PairsInOrder d) (degree q : List ℕ) (k : Queued d (toldBy d q) degree q) where
+module _ (d : Theory) (o : PairsInOrder d) (degree q : List ℕ) (k : Queued d (removedBy d q) degree q) where
   -- a rule that is not in the queue
   abbrev left-out : ℕ → Bool
   left-out w = ltb w (d .rules) and isnt (member w q)

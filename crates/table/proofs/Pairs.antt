@@ -16,7 +16,7 @@ use Rattle.table.specs.declared.judge.Judgement.the-variants.{Accepted}
 use Rattle.table.specs.Format.{pairAt, theoryIn}
 use Rattle.table.specs.Refusals.{oversize, outOfRange, disorder, cycle, judgementOf}
 use Rattle.table.specs.Pairs.{PairsInOrder}
-use Rattle.table.specs.Release.{toldBy, Zeros, Queued}
+use Rattle.table.specs.Release.{removedBy, Zeros, Queued}
 use Rattle.table.proofs.Legal.{legal, limited, ranged, stronger-below, weaker-below}
 use Rattle.table.proofs.Sorted.{before-left, pairs-rise}
 use Rattle.table.proofs.Kahn.{queued-start, queued-end}
@@ -57,12 +57,12 @@ module _ (b : List ℕ) (s : Sizes) where
   -- the start and the end of the algorithm on a table's pairs
   pub table-start : PairsInOrder (theoryIn b s) → (degree queue : List ℕ) (end : ℕ) → Zeros (s .rules) degree (take end queue)
       → ((w : ℕ) → w < 1024 → getD degree w 0 ≡ countBelow (s .pairs) (λ i. eqb (pairAt b s i .weaker) w))
-      → Queued (theoryIn b s) (toldBy (theoryIn b s) (take 0 queue)) degree (take end queue)
+      → Queued (theoryIn b s) (removedBy (theoryIn b s) (take 0 queue)) degree (take end queue)
   unfolding theoryIn
   table-start o degree queue end z e = queued-start (theoryIn b s) o degree (take end queue) z (λ w h. e w (omega (arith, o .small)))
 
   pub table-end : PairsInOrder (theoryIn b s) → (degree queue : List ℕ) (all : ℕ) → all ≤ length queue
-      → Queued (theoryIn b s) (toldBy (theoryIn b s) (take all queue)) degree (take all queue) → ltb all (s .rules) ≡ cycle b s
+      → Queued (theoryIn b s) (removedBy (theoryIn b s) (take all queue)) degree (take all queue) → ltb all (s .rules) ≡ cycle b s
   unfolding theoryIn cycle
   table-end o degree queue all h k =
       ap (λ n. ltb n (s .rules)) (sym (length-take-le all queue h)) ∙ queued-end (theoryIn b s) o degree (take all queue) k

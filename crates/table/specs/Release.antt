@@ -1,6 +1,6 @@
 -- Kahn's algorithm (src/cycle.rt): what its functions say to each other. A rule is released, that is put into a queue, once no
--- pair that is not told yet names it as the weaker; the rules of the queue are taken up in turn, and the pairs in which the one
--- taken up is the stronger are told.
+-- pair that is not removed yet names it as the weaker; the rules of the queue are taken up in turn, and the pairs in which the one
+-- taken up is the stronger are removed.
 use Prim.Native.Nat.{ℕ, _+_, _≤_, _<_}
 use mathlib.Core.Path.{_≡_}
 use mathlib.Core.Bool.{Bool, cond}
@@ -11,13 +11,13 @@ use Rattle.logic.specs.Tests.{_and_, isnt, member, distinct, countBelow}
 use Rattle.logic.specs.Theory.{Theory, superior}
 use Rattle.logic.specs.Cycle.{Leads}
 
--- how many pairs that are not told name a rule as the weaker
+-- how many pairs that are not removed name a rule as the weaker
 abbrev pub waits : Theory → (ℕ → Bool) → ℕ → ℕ
-waits d told w = countBelow (d .pairs) (λ i. eqb (d .pair i .weaker) w and isnt (told i))
+waits d removed w = countBelow (d .pairs) (λ i. eqb (d .pair i .weaker) w and isnt (removed i))
 
--- the pairs that are told once the rules of a list were taken up
-abbrev pub toldBy : Theory → List ℕ → ℕ → Bool
-toldBy d l i = member (d .pair i .stronger) l
+-- the pairs that are removed once the rules of a list were taken up
+abbrev pub removedBy : Theory → List ℕ → ℕ → Bool
+removedBy d l i = member (d .pair i .stronger) l
 
 -- where each rule's pairs begin: of the pairs with the same stronger rule, the first
 pub record Runs (d : Theory) (first : List ℕ) : Type 0 where
@@ -37,15 +37,15 @@ inferior d s t = superior d t s
 
 -- how it stands between two steps: the queue, what the rules still wait for, that only rules in the queue were taken up, and
 -- that none of them is on a cycle
-pub record Queued (d : Theory) (told : ℕ → Bool) (degree queue : List ℕ) : Type 0 where
+pub record Queued (d : Theory) (removed : ℕ → Bool) (degree queue : List ℕ) : Type 0 where
   pub zeros : Zeros (d .rules) degree queue
-  pub counts : (w : ℕ) → w < d .rules → getD degree w 0 ≡ waits d told w
-  pub heard : (i : ℕ) → i < d .pairs → T (told i) → T (member (d .pair i .stronger) queue)
+  pub counts : (w : ℕ) → w < d .rules → getD degree w 0 ≡ waits d removed w
+  pub queued : (i : ℕ) → i < d .pairs → T (removed i) → T (member (d .pair i .stronger) queue)
   pub clean : (w : ℕ) → T (member w queue) → Leads (inferior d) w w → ⊥
 
 -- the queue is in the first `end` places of an array, and the rules in the first `next` of them were taken up
 abbrev pub Reached : Theory → ℕ → ℕ → List ℕ → List ℕ → Type 0
-Reached d next end degree queue = Queued d (toldBy d (take next queue)) degree (take end queue)
+Reached d next end degree queue = Queued d (removedBy d (take next queue)) degree (take end queue)
 
 -- a queue in the first places of an array, with one more at its end if a test says so
 pub record Pushed (test : Bool) (rule : ℕ) (queue : List ℕ) (end : ℕ) (after : List ℕ) (last : ℕ) : Type 0 where

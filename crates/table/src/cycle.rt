@@ -71,7 +71,7 @@ fn start(n: u16, degree: &[u16], queue: &mut [u16]) -> usize
 }
 
 // A rule waits for one stronger rule less, and is released if it waits for none.
-fn tell(w: u16, degree: &mut [u16], queue: &mut [u16], end: usize) -> usize
+fn lower(w: u16, degree: &mut [u16], queue: &mut [u16], end: usize) -> usize
     requires { ⌜ (w < length (now degree)) × (1 ≤ getD (now degree) w 0) × (end < length (now queue)) ⌝ }
     ensures { λ r. ⌜ (now (degree .exit) ≡ set (now (degree .entry)) w (getD (now (degree .entry)) w 0 - 1)) × Pushed (eqb (getD (now (degree .entry)) w 0 - 1) 0) w (now (queue .entry)) end (now (queue .exit)) r ⌝ }
 {
@@ -103,7 +103,7 @@ fn release(
         if p.stronger != r {
             return last;
         }
-        last = tell(p.weaker, degree, queue, last);
+        last = lower(p.weaker, degree, queue, last);
         i += 1;
     }
     last

@@ -280,8 +280,8 @@ module _ (b : List ℕ) (s : Sizes) (e : judgementOf b ≡ Accepted s) (q t : �
     skip-second = skips-opposed (theoryIn b s) (proper-in b s e) mem log n second first g (omega (arith, atoms-in b s)) (omega arith)
 
     module _ {u : Bool} (eu : u ≡ (writtenOf mem first or writtenOf mem second)) where
-      pub settled : u ≡ true → Tried (theoryIn b s) (first ∷ second ∷ []) mem log n mem log n
-      settled h =
+      pub opposed : u ≡ true → Tried (theoryIn b s) (first ∷ second ∷ []) mem log n mem log n
+      opposed h =
           let w = or-elim _ _ (of-true _ (sym eu ∙ h)) in tried-on (theoryIn b s) (skip-first w) (skip-second (⊎-elim inr inl w))
 
       pub first-open : u ≡ false → writtenOf mem first ≡ false

@@ -1,4 +1,4 @@
--- The start of a run: cleared words, the rules' one antecedent more, and a memory that is ready. Assumes nothing.
+-- The start of a run: cleared words, the rules' virtual antecedents, and a memory that is ready. Assumes nothing.
 use Prim.Native.Nat.{ℕ, zero, suc, _+_, _*_, _/_, _%_, _≤_, _<_}
 use native.Mathlib.Omega.{arith}
 use native.Mathlib.Nat.{le-antisymm, not-suc-le-zero, le-of-suc-le-suc}

@@ -1,6 +1,6 @@
 -- `engine::tries::try_opposites` meets its contract. Assumes nothing.
 use native.Mathlib.Omega.{arith}
-use Rattle.engine.proofs.run.Trying.{few, first-open, first-written, second-open, settled, tried-on}
+use Rattle.engine.proofs.run.Trying.{few, first-open, first-written, second-open, opposed, tried-on}
 use borrow.Author.Needs.{needs}
 use Rattle.engine.proofs.tries.try_opposites.Statement.{statement}
 use Rattle.engine.proofs.tries.try_opposites.Tie as tie
@@ -13,7 +13,7 @@ either-written-requires c κs =
 returns : tie.Need-returns
 returns c =
     let start = c .before .before .before .before .before .before in
-    settled _ _ (start .pre .0) _ _ (start .pre .1) (start .pre .2) (start .pre .3) _ _ _ (start .pre .4) (c .before .either-written .ensures) (c .if1 .taken)
+    opposed _ _ (start .pre .0) _ _ (start .pre .1) (start .pre .2) (start .pre .3) _ _ _ (start .pre .4) (c .before .either-written .ensures) (c .if1 .taken)
 
 try-open-requires : tie.Need-try-open-requires
 try-open-requires c κs =

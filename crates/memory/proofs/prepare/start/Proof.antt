@@ -1,4 +1,4 @@
--- `memory::prepare::start` meets its contract. The loop's invariant: the rules passed have their one antecedent more. Assumes nothing.
+-- `memory::prepare::start` meets its contract. The loop's invariant: the rules passed were visited for their virtual antecedent. Assumes nothing.
 use Prim.Native.Nat.{_≤_, _-_}
 use native.Mathlib.Omega.{arith}
 use Rattle.table.specs.Format.{theoryIn}

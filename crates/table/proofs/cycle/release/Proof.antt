@@ -1,17 +1,17 @@
--- `table::cycle::release` meets its contract. The loop's invariant is `Telling` of proofs/Arrays.antt: the pairs told are those of the rules taken up before, and this rule's own below `i`. Assumes nothing.
+-- `table::cycle::release` meets its contract. The loop's invariant is `Removing` of proofs/Arrays.antt: the pairs removed are those of the rules taken up before, and this rule's own below `i`. Assumes nothing.
 use Prim.Native.Nat.{_<_, _-_, _≤_}
 use native.Mathlib.Omega.{arith}
 use mathlib.Core.Path.{sym, _∙_, _≡_}
 use lib.ListN.{length, getD}
 use borrow.Author.Needs.{needs}
 use Rattle.table.specs.Format.{theoryIn}
-use Rattle.table.proofs.Arrays.{taken-small, Telling, telling-start, telling-end, telling-waits, telling-room, telling-next}
+use Rattle.table.proofs.Arrays.{taken-small, Removing, removing-start, removing-end, removing-waits, removing-room, removing-next}
 use Rattle.table.proofs.Pairs.{strong-read, weak-read, weak-small}
 use Rattle.table.proofs.cycle.release.Statement.{statement}
 use Rattle.table.proofs.cycle.release.Tie as tie
 
 abbrev Inv-loop : tie.InvT-loop
-Inv-loop table s first degree₀ queue₀ next end n r last₀ i₀ degree queue last i = (getD first (getD queue₀ next 0) 0 ≤ i) × Telling (theoryIn table s) queue₀ next degree queue last i
+Inv-loop table s first degree₀ queue₀ next end n r last₀ i₀ degree queue last i = (getD first (getD queue₀ next 0) 0 ≤ i) × Removing (theoryIn table s) queue₀ next degree queue last i
 
 abbrev μ-loop : tie.MeasureT-loop
 μ-loop table s first degree₀ queue₀ next end n r last₀ i₀ degree queue last i = n - i
@@ -31,7 +31,7 @@ of-rule : (c : tie.Else1 Inv-loop μ-loop) → theoryIn (c .before .before .befo
 of-rule c = sym (strong-read _ _ _ _ (c .before .before .pair-within .ensures)) ∙ c .if1 .left
 
 room : (c : tie.Else1 Inv-loop μ-loop) → c .before .before .before .before .loop .last < 1024
-room c = omega (arith, telling-room _ _ _ (within (c .before .before .before .before)) (c .before .before .before .before .before .before .before .before .before .before .before .before .before .before .pre .0 .0) _ _ _ _ (c .before .before .before .before .loop .inv .1) (below c) (of-rule c), c .before .before .before .before .before .before .before .before .before .before .before .before .before .before .pre .0 .0 .small)
+room c = omega (arith, removing-room _ _ _ (within (c .before .before .before .before)) (c .before .before .before .before .before .before .before .before .before .before .before .before .before .before .pre .0 .0) _ _ _ _ (c .before .before .before .before .loop .inv .1) (below c) (of-rule c), c .before .before .before .before .before .before .before .before .before .before .before .before .before .before .pre .0 .0 .small)
 
 mul-wide : tie.Need-mul-wide Inv-loop μ-loop
 mul-wide c = omega (arith, small c)
@@ -40,25 +40,25 @@ shared-slice-read-wide : tie.Need-shared-slice-read-wide Inv-loop μ-loop
 shared-slice-read-wide c = omega (arith, small (c .before), c .before .before .before .before .before .before .before .before .pre .1)
 
 loop-holds : tie.Need-loop-holds Inv-loop μ-loop
-loop-holds c = telling-start _ _ _ (omega (arith, c .before .before .before .before .before .before .before .before .before .pre .1)) _ _ _ _ _ (c .before .before .before .before .before .before .before .before .before .pre .0 .1) (c .before .before .before .before .before .before .before .before .before .pre .0 .2) (c .before .before .before .before .before .before .before .before .before .pre .1 .1) (c .before .before .before .before .before .before .before .before .before .pre .1 .2) (c .before .before .before .before .before .before .before .before .before .pre .1 .3) (c .before .before .before .before .before .before .before .before .before .pre .1 .4) (c .before .before .wide .ensures) (c .wide2 .ensures)
+loop-holds c = removing-start _ _ _ (omega (arith, c .before .before .before .before .before .before .before .before .before .pre .1)) _ _ _ _ _ (c .before .before .before .before .before .before .before .before .before .pre .0 .1) (c .before .before .before .before .before .before .before .before .before .pre .0 .2) (c .before .before .before .before .before .before .before .before .before .pre .1 .1) (c .before .before .before .before .before .before .before .before .before .pre .1 .2) (c .before .before .before .before .before .before .before .before .before .pre .1 .3) (c .before .before .before .before .before .before .before .before .before .pre .1 .4) (c .before .before .wide .ensures) (c .wide2 .ensures)
 
 returns : tie.Need-returns Inv-loop μ-loop
-returns c = (c .before .before .before .before .loop .inv .1 .ahead, c .before .before .before .before .loop .inv .1 .most, telling-end _ _ _ (within (c .before .before .before .before)) (c .before .before .before .before .before .before .before .before .before .before .before .before .before .before .pre .0 .0) _ _ _ _ (c .before .before .before .before .loop .inv .1) _ (c .before .before .before .before .before .before .before .before .before .before .before .before .before .before .pre .0 .1) (c .before .before .before .before .loop .inv .0) (λ _ e. c .if1 .taken (strong-read _ _ _ _ (c .before .before .pair-within .ensures) ∙ e)))
+returns c = (c .before .before .before .before .loop .inv .1 .ahead, c .before .before .before .before .loop .inv .1 .most, removing-end _ _ _ (within (c .before .before .before .before)) (c .before .before .before .before .before .before .before .before .before .before .before .before .before .before .pre .0 .0) _ _ _ _ (c .before .before .before .before .loop .inv .1) _ (c .before .before .before .before .before .before .before .before .before .before .before .before .before .before .pre .0 .1) (c .before .before .before .before .loop .inv .0) (λ _ e. c .if1 .taken (strong-read _ _ _ _ (c .before .before .pair-within .ensures) ∙ e)))
 
-tell-requires : tie.Need-tell-requires Inv-loop μ-loop
-tell-requires c κs = (omega (arith, weak-small _ _ (c .before .before .before .before .before .before .before .before .before .before .before .before .before .before .before .before .pre .0 .0) _ _ (c .before .before .before .before .before .loop-test .taken) (c .before .before .before .before .pair-within .ensures), c .before .before .before .before .before .before .loop .inv .1 .degrees), telling-waits _ _ _ (within (c .before .before .before .before .before .before)) (c .before .before .before .before .before .before .before .before .before .before .before .before .before .before .before .before .pre .0 .0) _ _ _ _ (c .before .before .before .before .before .before .loop .inv .1) (below (c .before .before)) (of-rule (c .before .before)) _ (weak-read _ _ _ _ (c .before .before .before .before .pair-within .ensures)), omega (arith, room (c .before .before), c .before .before .before .before .before .before .loop .inv .1 .places))
+lower-requires : tie.Need-lower-requires Inv-loop μ-loop
+lower-requires c κs = (omega (arith, weak-small _ _ (c .before .before .before .before .before .before .before .before .before .before .before .before .before .before .before .before .pre .0 .0) _ _ (c .before .before .before .before .before .loop-test .taken) (c .before .before .before .before .pair-within .ensures), c .before .before .before .before .before .before .loop .inv .1 .degrees), removing-waits _ _ _ (within (c .before .before .before .before .before .before)) (c .before .before .before .before .before .before .before .before .before .before .before .before .before .before .before .before .pre .0 .0) _ _ _ _ (c .before .before .before .before .before .before .loop .inv .1) (below (c .before .before)) (of-rule (c .before .before)) _ (weak-read _ _ _ _ (c .before .before .before .before .pair-within .ensures)), omega (arith, room (c .before .before), c .before .before .before .before .before .before .loop .inv .1 .places))
 
 loop-again : tie.Need-loop-again Inv-loop μ-loop
-loop-again c = (omega (arith, c .before .before .before .before .before .before .before .before .before .before .before .loop .inv .0), telling-next _ _ _ (within (c .before .before .before .before .before .before .before .before .before .before .before)) (c .before .before .before .before .before .before .before .before .before .before .before .before .before .before .before .before .before .before .before .before .before .pre .0 .0) _ _ _ _ (c .before .before .before .before .before .before .before .before .before .before .before .loop .inv .1) (below (c .before .before .before .before .before .before .before)) (of-rule (c .before .before .before .before .before .before .before)) _ _ _ _ (weak-read _ _ _ _ (c .before .before .before .before .before .before .before .before .before .pair-within .ensures)) (c .before .before .before .before .tell .ensures .0) (c .before .before .before .before .tell .ensures .1) (c .before .before .before .before .tell .kept .1 .1 .0))
+loop-again c = (omega (arith, c .before .before .before .before .before .before .before .before .before .before .before .loop .inv .0), removing-next _ _ _ (within (c .before .before .before .before .before .before .before .before .before .before .before)) (c .before .before .before .before .before .before .before .before .before .before .before .before .before .before .before .before .before .before .before .before .before .pre .0 .0) _ _ _ _ (c .before .before .before .before .before .before .before .before .before .before .before .loop .inv .1) (below (c .before .before .before .before .before .before .before)) (of-rule (c .before .before .before .before .before .before .before)) _ _ _ _ (weak-read _ _ _ _ (c .before .before .before .before .before .before .before .before .before .pair-within .ensures)) (c .before .before .before .before .lower .ensures .0) (c .before .before .before .before .lower .ensures .1) (c .before .before .before .before .lower .kept .1 .1 .0))
 
 returns-2 : tie.Need-returns-2 Inv-loop μ-loop
 unfolding theoryIn
-returns-2 c = (c .before .loop .inv .1 .ahead, c .before .loop .inv .1 .most, telling-end _ _ _ (within (c .before)) (c .before .before .before .before .before .before .before .before .before .before .before .pre .0 .0) _ _ _ _ (c .before .loop .inv .1) _ (c .before .before .before .before .before .before .before .before .before .before .before .pre .0 .1) (c .before .loop .inv .0) (λ h _. absurd (omega arith)))
+returns-2 c = (c .before .loop .inv .1 .ahead, c .before .loop .inv .1 .most, removing-end _ _ _ (within (c .before)) (c .before .before .before .before .before .before .before .before .before .before .before .pre .0 .0) _ _ _ _ (c .before .loop .inv .1) _ (c .before .before .before .before .before .before .before .before .before .before .before .pre .0 .1) (c .before .loop .inv .0) (λ h _. absurd (omega arith)))
 
 pub release-spec : {M : Type 1} → statement M
 release-spec =
     tie.close
     (tie.spec
     Inv-loop μ-loop (λ c. search needs) (λ c. search needs) (λ c. search needs) (λ c κs. search needs) mul-wide shared-slice-read-wide
-    (λ c κs. search needs) loop-holds (λ c κs. search needs) (λ c. search needs) (λ c. search needs) returns tell-requires
+    (λ c κs. search needs) loop-holds (λ c κs. search needs) (λ c. search needs) (λ c. search needs) returns lower-requires
     (λ c. search needs) (λ c. search needs) loop-again (λ c. search needs) (λ c. search needs) returns-2)
