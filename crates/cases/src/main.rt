@@ -1,50 +1,70 @@
-// Runs the cases that are not theorems: the vectors of base.bin and sheets.bin, and tables made by hand. Each group prints one line:
-// how many cases there were, and how many of them gave what they must.
-mod buffers;
-mod lengths;
-mod made;
+// Runs the cases that are not theorems, from the data files, and compares. A line for each file says how many records it has and how
+// many of them gave what they must; before it a line for each other record names the first difference.
+mod difference;
 mod noise;
 mod records;
-mod refusals;
-mod sheets;
-mod tally;
-mod vectors;
-mod verdict;
+mod runs;
+mod stream;
 
+use difference::print_number;
 use libc::STDOUT_FILENO;
 
-fn run_base() {
-    let fd = os::open_read(b"base.bin");
-    if fd < 0 {
-        os::fail(b"base.bin");
-        return;
-    }
-    let mut file = io::large_buffer();
-    let n = io::read_full(fd, &mut file);
-    libc::close(fd);
-    let tried = vectors::try_all(&file[..n]);
-    tried.judged.print(STDOUT_FILENO, b"tables");
-    tried.ran.print(STDOUT_FILENO, b"runs");
+// More records than any file has.
+const LIMIT: u32 = 65536;
+
+// How the records of a file are laid out.
+pub enum Layout {
+    Base,
+    Made,
+    Bodies,
+    Sheets,
 }
 
-fn run_sheets() {
-    let fd = os::open_read(b"sheets.bin");
-    if fd < 0 {
-        os::fail(b"sheets.bin");
-        return;
+// Whether a record whose table has n bytes is the same.
+fn is_same(file: &[u8], layout: Layout, fd: i32, record: u32, n: u32) -> bool {
+    let buffer = stream::bytes(fd, n);
+    let table = stream::front(&buffer, n);
+    let d = match layout {
+        Layout::Base => records::base_differs(fd, record, table),
+        Layout::Made => records::made_differs(fd, record, table),
+        Layout::Bodies => records::body_differs(fd, table),
+        Layout::Sheets => records::sheet_differs(fd, table),
+    };
+    d.is_none(file, record)
+}
+
+fn print_counts(file: &[u8], records: u32, same: u32) {
+    print_number(file, records as usize);
+    print_number(b" same", same as usize);
+    io::write_all(STDOUT_FILENO, b"\n");
+}
+
+// A file that is not there has no records.
+fn try_file(file: &[u8], layout: Layout, wide: bool) {
+    let fd = os::open_read(file);
+    let mut same: u32 = 0;
+    let mut i: u32 = 0;
+    while i < LIMIT {
+        let n = if wide {
+            stream::long(fd)
+        } else {
+            stream::word(fd) as u32
+        };
+        if stream::END <= n {
+            break;
+        }
+        let it = is_same(file, layout, fd, i, n);
+        same = std::num::wrapping_add_u32(same, it as u32);
+        i += 1;
     }
-    let mut file = io::large_buffer();
-    let n = io::read_full(fd, &mut file);
     libc::close(fd);
-    let printed = sheets::print_all(&file[..n]);
-    printed
-        .add(sheets::longest_right())
-        .print(STDOUT_FILENO, b"sheets");
+    print_counts(file, i, same);
 }
 
 fn main() {
-    run_base();
-    refusals::refuse_all().print(STDOUT_FILENO, b"refusals");
-    lengths::run_all().print(STDOUT_FILENO, b"lengths");
-    run_sheets();
+    try_file(b"base.bin", Layout::Base, false);
+    try_file(b"made.bin", Layout::Made, true);
+    try_file(b"bodies.bin", Layout::Bodies, true);
+    try_file(b"sheets.bin", Layout::Sheets, false);
+    try_file(b"longest.bin", Layout::Sheets, false);
 }

@@ -1,14 +1,22 @@
-// Noise: what the borrowed buffers hold before a run. It is a function of a seed and a place, so that it is computed anew where
-// the buffers are looked at afterwards. No word of it is 0, and at one seed the words of 65,535 places are all different.
+// Noise: what the buffers hold before a run. It is a function of a seed and a place, so that it is computed anew where the buffers
+// are looked at afterwards. No word of it is 0, and at one seed the words of 65,535 places are all different.
+ghost use mathlib.Core.Path.{_≡_};
+ghost use lib.ListN.{length};
+
 pub fn noise(seed: u32, i: usize) -> u16 {
-    let x = (i % 65535) * 28111 + (seed as usize % 65535) * 13849;
+    let x = (i % 65535) * 28111 + seed as usize;
     (x % 65535 + 1) as u16
 }
 
-pub fn fill(words: &mut [u16], seed: u32) {
+// A buffer of noise, longer than what any record borrows.
+pub fn noisy(seed: u32) -> [u16; 65536]
+    ensures { λ r. ⌜ 65536 ≡ length r ⌝ }
+{
+    let mut words = [0u16; 65536];
     let mut i: usize = 0;
-    while i < words.len() {
+    while i < 65536 {
         words[i] = noise(seed, i);
         i += 1;
     }
+    words
 }

@@ -1,98 +1,86 @@
-// The records of base.bin, one after the other: u16 table length, the table, u32 budget, u16 answer (0 finished, 255 stopped,
-// else the number of a refusal), u16 lines, u16 worked, u32 spent, `lines` words of log. After the last comes the word 65,535.
-// The low byte of a number comes first.
-ghost use Rattle.cases.specs.Records.{Onward};
+// The records of each kind, after their table.
+use crate::difference::BYTE;
+use crate::difference::Difference;
+use crate::difference::LENGTH;
+use crate::runs::Run;
+use crate::runs::run_differs;
+use crate::stream::bytes;
+use crate::stream::join;
+use crate::stream::long;
+use crate::stream::number;
+use crate::stream::word;
+use report::sheet::sheet_of;
+use table::body::body;
 
-// Where the parts of a record begin. The table ends where the budget begins, and the log where the next record does.
-pub struct Record {
-    pub table: usize,
-    pub budget: usize,
-    pub answer: usize,
-    pub lines: usize,
-    pub worked: usize,
-    pub spent: usize,
-    pub log: usize,
-    pub next: usize,
-}
-
-pub enum Found {
-    Here(Record),
-    // The mark of the end, or a record that is not whole.
-    Nothing,
-}
-
-const MARK: usize = 65535;
-
-fn join(low: u8, high: u8) -> u16 {
-    low as u16 + 256 * (high as u16)
-}
-
-// The word at a byte, 0 where it is not within the bytes.
-pub fn word_at(bytes: &[u8], at: usize) -> u16 {
-    if bytes.len() < 2 {
-        return 0;
-    }
-    if bytes.len() - 2 < at {
-        return 0;
-    }
-    join(bytes[at], bytes[at + 1])
-}
-
-// The number of four bytes at a byte, 0 where they are not within the bytes.
-pub fn long_at(bytes: &[u8], at: usize) -> u32 {
-    if bytes.len() < 4 {
-        return 0;
-    }
-    if bytes.len() - 4 < at {
-        return 0;
-    }
-    word_at(bytes, at) as u32 + 65536 * (word_at(bytes, at + 2) as u32)
-}
-
-// The bytes from one place to another, none where they are not within the bytes.
-pub fn part(bytes: &[u8], from: usize, to: usize) -> &[u8] {
-    if bytes.len() < to {
-        return &bytes[0..0];
-    }
-    if to < from {
-        return &bytes[0..0];
-    }
-    &bytes[from..to]
-}
-
-// The record that begins at a byte.
-pub fn record_at(bytes: &[u8], at: usize) -> Found
-    ensures { λ r. ⌜ Onward at r ⌝ }
-{
-    let n = bytes.len();
-    if n < 2 {
-        return Found::Nothing;
-    }
-    if n - 2 < at {
-        return Found::Nothing;
-    }
-    let table = at + 2;
-    let length = word_at(bytes, at) as usize;
-    if length == MARK {
-        return Found::Nothing;
-    }
-    if n - table < length + 14 {
-        return Found::Nothing;
-    }
-    let budget = table + length;
-    let log = budget + 14;
-    let words = word_at(bytes, budget + 6) as usize;
-    if n - log < 2 * words {
-        return Found::Nothing;
-    }
-    Found::Here(Record {
-        table,
+// base.bin: u32 budget, u16 answer (0 finished, 255 stopped, else the number of a refusal), u16 lines, u16 worked, u32 spent, `lines`
+// words of log. The buffers are long enough.
+pub fn base_differs(fd: i32, record: u32, table: &[u8]) -> Difference {
+    let budget = long(fd);
+    let answer = word(fd) as u32;
+    let lines = word(fd) as u32;
+    let want = Run {
         budget,
-        answer: budget + 4,
-        lines: budget + 6,
-        worked: budget + 8,
-        spent: budget + 10,
-        log,
-        next: log + 2 * words,
-    })
+        log: 2051,
+        scratch: 32773,
+        refused: answer % 255,
+        finished: (answer == 0) as u32,
+        lines,
+        worked: word(fd) as u32,
+        spent: long(fd),
+        words: lines,
+    };
+    run_differs(fd, record, table, want)
+}
+
+// The fields of a run, and the log.
+pub fn made_differs(fd: i32, record: u32, table: &[u8]) -> Difference {
+    let want = Run {
+        budget: number(fd),
+        log: number(fd),
+        scratch: number(fd),
+        refused: number(fd),
+        finished: number(fd),
+        lines: number(fd),
+        worked: number(fd),
+        spent: number(fd),
+        words: long(fd) / 2,
+    };
+    run_differs(fd, record, table, want)
+}
+
+fn byte_of(bytes: &[u8], i: usize) -> u8 {
+    if i < bytes.len() { bytes[i] } else { 0 }
+}
+
+// The length, and then each byte, 0 past the end.
+fn text_differs(came: &[u8], length: usize, text: &[u8; 65536], n: u32) -> Difference {
+    let mut d = Difference {
+        what: LENGTH,
+        place: 0,
+        came: (length % 65536) as u32,
+        wanted: n,
+    };
+    let mut i: usize = 0;
+    while i < 65536 {
+        d = d.or(BYTE, i, byte_of(came, i) as u32, join(text[i], 0) as u32);
+        i += 1;
+    }
+    d
+}
+
+// The rule, and the bytes of its body.
+pub fn body_differs(fd: i32, table: &[u8]) -> Difference {
+    let came = body(table, number(fd) as usize);
+    let n = long(fd);
+    let text = bytes(fd, n);
+    text_differs(came, came.len(), &text, n)
+}
+
+// u16 length of the text, and the text of the sheet.
+pub fn sheet_differs(fd: i32, table: &[u8]) -> Difference {
+    let sheet = sheet_of(table);
+    let came = sheet.bytes;
+    let n = word(fd) as u32;
+    let text = bytes(fd, n);
+    text_differs(&came, sheet.length, &text, n)
 }

@@ -24,13 +24,34 @@ find-runs-requires : tie.Need-find-runs-requires
 find-runs-requires c κs = (in-order (c .before .before .before .before .before), refl, c .before .before .before .before .before .pre .3)
 
 start-requires : tie.Need-start-requires
-start-requires c κs = (omega (arith, small (c .before .before .before .before .before .before .before .before .before), c .before .before .before .before .before .before .count-stronger .kept .1 .1 .0), small (c .before .before .before .before .before .before .before .before .before))
+start-requires c κs =
+    let at-count-stronger = c .before .before .before .before .before .before in let at-state = at-count-stronger .before .before .before in
+    (omega (arith, small at-state, at-count-stronger .count-stronger .kept .1 .1 .0), small (at-state))
 
 released-requires : tie.Need-released-requires
-released-requires c κs = ((in-order (c .before .before .before .before .before .before .before .before .before .before .before .before .before .before), c .before .before .before .before .before .before .before .before .find-runs .ensures, table-start _ _ (in-order (c .before .before .before .before .before .before .before .before .before .before .before .before .before .before)) _ (c .before .before .before .before .start .last .1 .1 .0) (c .before .before .before .before .start .result) (c .before .before .before .before .start .ensures .1) (c .before .before .before .before .before .before .before .before .before .before .before .count-stronger .ensures)), (c .before .before .before .before .before .before .before .before .find-runs .kept .1 .1 .0, c .before .before .before .before .before .before .before .before .before .before .before .count-stronger .kept .1 .1 .0, c .before .before .before .before .start .kept .1 .1 .0, omega (arith, small (c .before .before .before .before .before .before .before .before .before .before .before .before .before .before), c .before .before .before .before .start .ensures .0), c .before .before .before .before .before .before .before .before .before .before .before .before .before .before .pre .3))
+released-requires c κs =
+    let at-start = c .before .before .before .before in let at-find-runs = at-start .before .before .before .before in
+    let at-count-stronger = at-find-runs .before .before .before in let start = at-count-stronger .before .before .before in (
+      (
+        in-order start,
+        at-find-runs .find-runs .ensures,
+        table-start _ _ (in-order (start)) _ (at-start .start .last .1 .1 .0) (at-start .start .result) (at-start .start .ensures .1) (at-count-stronger .count-stronger .ensures),
+      ),
+      (
+        at-find-runs .find-runs .kept .1 .1 .0,
+        at-count-stronger .count-stronger .kept .1 .1 .0,
+        at-start .start .kept .1 .1 .0,
+        omega (arith, small start, at-start .start .ensures .0),
+        start .pre .3,
+      ),
+    )
 
 returns : tie.Need-returns
-returns c = table-end _ _ (in-order (c .before .before .before .before .before .before .before .before .before .before .before .before .before .before .before .before .before .before)) _ _ _ (omega (arith, c .before .before .before .released .ensures .0, c .before .before .before .released .kept .1 .1 .1 .1 .0, c .before .before .before .before .before .before .before .before .start .kept .1 .1 .0)) (c .before .before .before .released .ensures .1)
+returns c =
+    let at-released = c .before .before .before in let at-start = at-released .before .before .before .before .before in
+    let at-state = at-start .before .before .before .before .before .before .before .before .before .before in
+    table-end _ _ (in-order (at-state)) _ _ _ (omega (arith, at-released .released .ensures .0, at-released .released .kept .1 .1 .1 .1 .0, at-start .start .kept .1 .1 .0))
+    (at-released .released .ensures .1)
 
 pub has-cycle-spec : {M : Type 1} → statement M
 has-cycle-spec =
