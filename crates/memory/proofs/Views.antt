@@ -5,13 +5,13 @@ use mathlib.Core.Path.{_≡_, refl, sym, _∙_, ap}
 use mathlib.Core.Logic.{_⊎_, ⊎-elim}
 use mathlib.Core.Bool.{cond}
 use mathlib.Core.List.{List}
-use lib.Dec.{T, ltb, ltb→lt, lt→ltb}
+use lib.Dec.{T, leb→le, ltb, ltb→lt, lt→ltb}
 use lib.ListN.{length, getD, set, drop}
 use lib.Seq.{getD-set-same, getD-set-other, drop-set-lt}
 use Rattle.logic.specs.Tests.{_and_, _or_}
 use Rattle.logic.proofs.Tests.{and-intro, and-left, and-right, cond-false, cond-true, or-elim, test-cases}
 use Rattle.memory.specs.Layout.{fieldCount, fieldSize, usesBase, usesSize, memorySize}
-use Rattle.memory.specs.Fields.{sizeF, beatenF, lostF, provedF, rivalsEnd, inIndex}
+use Rattle.memory.specs.Fields.{sizeF, beatenF, usesF, provedF, rivalsEnd, inIndex}
 use Rattle.memory.specs.Memory.{view, useAt}
 use Rattle.memory.specs.Api.{Kept}
 
@@ -76,10 +76,10 @@ kept-then j k = record { size = k .size ∙ j .size; rest = k .rest ∙ j .rest 
 pub below-index : (f : ℕ) → f < sizeF → T (inIndex f) → ⊥
 unfolding inIndex
 below-index f h t =
-    ⊎-elim (λ u. let l : 7 < f = ltb→lt 7 f (and-left _ _ u) in omega arith) (λ u. let l : lostF < f = ltb→lt lostF f (and-left _ _ u) in omega arith) (or-elim _ _ t)
+    ⊎-elim (λ u. let l : sizeF ≤ f = leb→le sizeF f (and-left _ _ u) in omega arith) (λ u. let l : usesF ≤ f = leb→le usesF f (and-left _ _ u) in omega arith) (or-elim _ _ t)
 
 pub past-rule : (f : ℕ) → beatenF ≤ f → (f < rivalsEnd) ⊎ (provedF ≤ f) → T (inIndex f) → ⊥
 unfolding inIndex
 past-rule f h c t =
     ⊎-elim (λ u. let l : f < beatenF = ltb→lt f beatenF (and-right _ _ u) in omega arith)
-    (λ u. let l : lostF < f = ltb→lt lostF f (and-left _ _ u) in let k : f < provedF = ltb→lt f provedF (and-right _ _ u) in ⊎-elim (λ e. omega arith) (λ e. omega arith) c) (or-elim _ _ t)
+    (λ u. let l : usesF ≤ f = leb→le usesF f (and-left _ _ u) in let k : f < provedF = ltb→lt f provedF (and-right _ _ u) in ⊎-elim (λ e. omega arith) (λ e. omega arith) c) (or-elim _ _ t)

@@ -1,7 +1,7 @@
 -- The fields of the memory by their names (src/fields.rt). A rival of a rule is a supporter of its head's complement that is over it.
 use Prim.Native.Nat.{ℕ, _+_, _-_}
 use mathlib.Core.Bool.{Bool}
-use lib.Dec.{ltb}
+use lib.Dec.{leb, ltb}
 use Rattle.logic.specs.Tests.{_and_, _or_}
 
 -- Of a literal, one for each tag: 0 not written, 1 written, 2 processed.
@@ -111,4 +111,4 @@ byItself t = byItselfBase - t
 
 -- the fields of the index, which are written once; all others are marks and counts
 unfoldable pub inIndex : ℕ → Bool
-inIndex f = (ltb 7 f and ltb f beatenF) or (ltb lostF f and ltb f provedF)
+inIndex f = (leb sizeF f and ltb f beatenF) or (leb usesF f and ltb f provedF)

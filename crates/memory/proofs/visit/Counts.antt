@@ -227,14 +227,14 @@ pub decided-literal : (w v : ℕ → ℕ → ℕ) (h q k : ℕ) → provedF ≤ 
 unfolding tagOf
 decided-literal w v h q k l g f x lo hi =
     decided-same w v x (g .field sizeF x (λ e. omega arith)) (g .field rivalsF x (λ e. omega arith)) f lo hi
-    (g .field (has (tagOf f)) x (λ e. cond-cases (λ z. 4 + z ≡ h → ⊥) (ltb f counteredF) (f - provedF) (byItselfBase - f) (λ t i. let b : f < counteredF = ltb→lt f counteredF t in omega arith) (λ _ i. omega arith) e))
+    (g .field (has (tagOf f)) x (λ e. cond-cases (λ z. has z ≡ h → ⊥) (ltb f counteredF) (f - provedF) (byItselfBase - f) (λ t i. let b : f < counteredF = ltb→lt f counteredF t in omega arith) (λ _ i. omega arith) e))
     (λ _. g .field beatenF x (λ e. omega arith)) (λ _. g .field lostF x (λ e. omega arith))
 
 pub decided-tag : (w v : ℕ → ℕ → ℕ) (t r : ℕ) → t < tagCount → Grown (has t) r 1 w v → (f x : ℕ) → provedF ≤ f → f < countsEnd → (x ≡ r → (f ≡ rulesBy t) ⊎ (f + t ≡ fieldCount) → ⊥) → decidedFor v f x ≡ decidedFor w f x
 unfolding tagOf
 decided-tag w v t r h g f x lo hi o =
     decided-same w v x (g .field sizeF x (λ e. omega arith)) (g .field rivalsF x (λ e. omega arith)) f lo hi
-    (grown-other g (has (tagOf f)) x (λ e i. cond-cases (λ z. 4 + z ≡ has t → ⊥) (ltb f counteredF) (f - provedF) (byItselfBase - f) (λ _ j. o i (inl (omega arith))) (λ _ j. o i (inr (omega arith))) e))
+    (grown-other g (has (tagOf f)) x (λ e i. cond-cases (λ z. has z ≡ has t → ⊥) (ltb f counteredF) (f - provedF) (byItselfBase - f) (λ _ j. o i (inl (omega arith))) (λ _ j. o i (inr (omega arith))) e))
     (λ _. g .field beatenF x (λ e. omega arith)) (λ _. g .field lostF x (λ e. omega arith))
 
 -- and the marks of literals have no part in it
@@ -247,7 +247,7 @@ pub decided-rule : (w v : ℕ → ℕ → ℕ) (t x k : ℕ) → 2 ≤ t → t <
 unfolding tagOf
 decided-rule w v t x k l h g f y lo hi o =
     decided-same w v y (g .field sizeF y (λ e. omega arith)) (g .field rivalsF y (λ e. omega arith)) f lo hi
-    (g .field (has (tagOf f)) y (λ e. cond-cases (λ z. 4 + z ≡ rivalsBy t → ⊥) (ltb f counteredF) (f - provedF) (byItselfBase - f) (λ c i. let b : f < counteredF = ltb→lt f counteredF c in omega arith) (λ _ i. omega arith) e))
+    (g .field (has (tagOf f)) y (λ e. cond-cases (λ z. has z ≡ rivalsBy t → ⊥) (ltb f counteredF) (f - provedF) (byItselfBase - f) (λ c i. let b : f < counteredF = ltb→lt f counteredF c in omega arith) (λ _ i. omega arith) e))
     (λ e. grown-other g beatenF y (λ i. o (omega arith))) (λ e. grown-other g lostF y (λ i. o (omega arith)))
 
 countered-turns : (a c : ℕ) → Turns (ltb 0 a or ltb 0 (c + 1)) (ltb 0 a or ltb 0 c) (eqb (c + 1) 1 and eqb a 0)
