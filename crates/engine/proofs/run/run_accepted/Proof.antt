@@ -14,13 +14,23 @@ returns-2 c =
     refused-as _ _ _ _ (refused-log _ _ _ _ _ (e .before .before .before .before .pre) (e .if1 .left) (i .if2 .taken)) (c .before .before .before .before .refuse2 .ensures)
 
 returns-3 : tie.Need-returns-3
-returns-3 c = ran _ _ _ _ _ (c .before .before .before .before .before .before .before .before .before .before .before .before .pre) (c .before .before .before .before .before .before .before .before .if1 .left) (c .before .before .before .before .before .before .if2 .left) _ _ _ _ (worked-none _ _ (c .before .before .before .before .before .before .before .before .before .before .before .before .pre) _ _ (size-in _ _ (c .before .before .before .before .before .before .before .before .before .before .before .before .pre) _ (c .before .before .before .before .before .size-of .ensures)) (c .before .before .before .before .if3 .taken) _ _) (c .before .before .clear .ensures)
+returns-3 c =
+    let at-clear = c .before .before in let at-if3 = at-clear .before .before in let at-size-of = at-if3 .before in let at-if2 = at-size-of .before in
+    let at-if1 = at-if2 .before .before in let start = at-if1 .before .before .before .before in let pre = start .pre in
+    ran _ _ _ _ _ (pre) (at-if1 .if1 .left) (at-if2 .if2 .left) _ _ _ _
+    (worked-none _ _ (pre) _ _ (size-in _ _ (pre) _ (at-size-of .size-of .ensures)) (at-if3 .if3 .taken) _ _) (at-clear .clear .ensures)
 
 run-started-requires : tie.Need-run-started-requires
-run-started-requires c κs = (c .before .before .before .before .before .before .before .before .before .before .pre, c .before .before .before .before .before .before .if1 .left, c .before .before .before .before .if2 .left, size-in _ _ (c .before .before .before .before .before .before .before .before .before .before .pre) _ (c .before .before .before .size-of .ensures), c .before .before .if3 .left)
+run-started-requires c κs =
+    let at-if3 = c .before .before in let at-size-of = at-if3 .before in let at-if2 = at-size-of .before in let at-if1 = at-if2 .before .before in
+    let start = at-if1 .before .before .before .before in let pre = start .pre in
+    (pre, at-if1 .if1 .left, at-if2 .if2 .left, size-in _ _ (pre) _ (at-size-of .size-of .ensures), at-if3 .if3 .left)
 
 returns-4 : tie.Need-returns-4
-returns-4 c = ran _ _ _ _ _ (c .before .before .before .before .before .before .before .before .before .before .before .before .before .before .before .before .before .before .before .pre) (c .before .before .before .before .before .before .before .before .before .before .before .before .before .before .before .if1 .left) (c .before .before .before .before .before .before .before .before .before .before .before .before .before .if2 .left) _ _ _ _ (c .before .before .before .before .before .before .before .before .run-started .ensures) (c .before .before .clear2 .ensures)
+returns-4 c =
+    let at-clear2 = c .before .before in let at-run-started = at-clear2 .before .before .before .before .before .before in
+    let at-if2 = at-run-started .before .before .before .before .before in let at-if1 = at-if2 .before .before in let start = at-if1 .before .before .before .before in
+    ran _ _ _ _ _ (start .pre) (at-if1 .if1 .left) (at-if2 .if2 .left) _ _ _ _ (at-run-started .run-started .ensures) (at-clear2 .clear2 .ensures)
 
 pub run-accepted-spec : {M : Type 1} → statement M
 run-accepted-spec =

@@ -12,16 +12,23 @@ uses-of-requires c κs =
     (p .0, p .1 .logged .ready, omega (arith, atoms-in (start .args .table .now) (start .args .s), p .1 .small))
 
 cost-requires : tie.Need-cost-requires
-cost-requires c κs = ((c .before .before .before .before .before .before .before .pre .0), (c .before .before .before .before .before .before .before .pre .1 .logged .ready), omega (arith, atoms-in (c .before .before .before .before .before .before .before .args .table .now) (c .before .before .before .before .before .before .before .args .s), (c .before .before .before .before .before .before .before .pre .1 .small)), (c .before .before .before .before .before .before .before .pre .1 .new), (c .before .uses-of .ensures))
+cost-requires c κs =
+    let start = c .before .before .before .before .before .before .before in let pre = start .pre in let args = start .args in
+    ((pre .0), (pre .1 .logged .ready), omega (arith, atoms-in (args .table .now) (args .s), (pre .1 .small)), (pre .1 .new), (c .before .uses-of .ensures))
 
 returns : tie.Need-returns
 returns c = stepped-stops _ _ _ _ _ _ _ (c .before .cost .ensures) (c .if1 .taken)
 
 try-after-requires : tie.Need-try-after-requires
-try-after-requires c κs = (((c .before .before .before .before .before .before .before .before .before .before .before .pre .0), (c .before .before .before .before .before .before .before .before .before .before .before .pre .1 .logged), omega (arith, atoms-in (c .before .before .before .before .before .before .before .before .before .before .before .args .table .now) (c .before .before .before .before .before .before .before .before .before .before .before .args .s), (c .before .before .before .before .before .before .before .before .before .before .before .pre .1 .small)), (c .before .before .before .before .before .before .before .before .before .before .before .pre .1 .written), (c .before .before .before .before .before .before .before .before .before .before .before .pre .1 .new)), (c .before .before .before .before .before .uses-of .ensures))
+try-after-requires c κs =
+    let at-uses-of = c .before .before .before .before .before in let start = at-uses-of .before .before .before .before .before .before in let pre = start .pre in
+    let args = start .args in
+    (((pre .0), (pre .1 .logged), omega (arith, atoms-in (args .table .now) (args .s), (pre .1 .small)), (pre .1 .written), (pre .1 .new)), (at-uses-of .uses-of .ensures))
 
 returns-2 : tie.Need-returns-2
-returns-2 c = stepped-works _ _ _ _ _ _ _ (c .before .before .before .before .before .before .before .before .cost .ensures) (c .before .before .before .before .before .before .before .if1 .left) _ _ _ (c .before .before .before .before .try-after .ensures)
+returns-2 c =
+    let at-try-after = c .before .before .before .before in let at-if1 = at-try-after .before .before .before in let at-cost = at-if1 .before in
+    stepped-works _ _ _ _ _ _ _ (at-cost .cost .ensures) (at-if1 .if1 .left) _ _ _ (at-try-after .try-after .ensures)
 
 pub process-spec : {M : Type 1} → statement M
 process-spec =

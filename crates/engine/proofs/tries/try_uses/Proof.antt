@@ -26,9 +26,14 @@ user-at-requires c κs =
 
 try-rule-requires : tie.Need-try-rule-requires Inv-loop μ-loop
 try-rule-requires c κs =
-    let l = c .before .before .before .before .before in
-    let start = l .before .before .before .before in let p = start .pre in
-    (p .0, omega (arith, rules-in (start .args .table .now) (start .args .s), use-below _ _ _ _ _ _ (p .3) _ _ _ _ (l .loop .inv) (c .before .before .before .before .loop-test .taken) _ (c .before .before .user-at .ensures)), l .loop .inv .tried .logged)
+    let at-user-at = c .before .before in let at-loop-test = at-user-at .before .before in let at-state = at-loop-test .before in
+    let l = at-state in
+    let start = l .before .before .before .before in let p = start .pre in (
+      p .0,
+      omega
+          (arith, rules-in (start .args .table .now) (start .args .s), use-below _ _ _ _ _ _ (p .3) _ _ _ _ (l .loop .inv) (at-loop-test .loop-test .taken) _ (at-user-at .user-at .ensures)),
+      l .loop .inv .tried .logged,
+    )
 
 add-k : tie.Need-add-k Inv-loop μ-loop
 add-k c =
@@ -37,8 +42,11 @@ add-k c =
 
 loop-again : tie.Need-loop-again Inv-loop μ-loop
 loop-again c =
-    let l = c .before .before .before .before .before .before .before .before .before .before in
-    using-next _ _ _ _ _ _ (l .before .before .before .before .pre .3) _ _ _ _ (l .loop .inv) (c .before .before .before .before .before .before .before .before .before .loop-test .taken) _ (c .before .before .before .before .before .before .before .user-at .ensures) _ _ _ (c .before .before .before .before .try-rule .ensures)
+    let at-try-rule = c .before .before .before .before in let at-user-at = at-try-rule .before .before .before in let at-loop-test = at-user-at .before .before in
+    let at-state = at-loop-test .before in
+    let l = at-state in
+    using-next _ _ _ _ _ _ (l .before .before .before .before .pre .3) _ _ _ _ (l .loop .inv) (at-loop-test .loop-test .taken) _ (at-user-at .user-at .ensures) _ _ _
+    (at-try-rule .try-rule .ensures)
 
 returns : tie.Need-returns Inv-loop μ-loop
 returns c = using-end _ _ _ _ _ _ (c .before .before .before .before .before .pre .3) _ _ _ _ (c .before .loop .inv) (c .loop-test .left)

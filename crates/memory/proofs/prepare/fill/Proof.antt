@@ -5,28 +5,76 @@ use Rattle.memory.proofs.prepare.fill.Statement.{statement}
 use Rattle.memory.proofs.prepare.fill.Tie as tie
 
 mark-facts-requires : tie.Need-mark-facts-requires
-mark-facts-requires c κs = (c .before .before .before .before .before .before .before .pre .0, room-1 _ _ (c .before .before .before .before .before .before .before .pre .0) (c .before .before .before .before .before .before .before .pre .1) (c .before .before .before .add-rules .ensures), blank-facts _ _ (c .before .before .before .before .before .before .before .pre .0) (c .before .before .before .before .before .before .before .pre .1) (c .before .before .before .add-rules .ensures))
+mark-facts-requires c κs =
+    let at-add-rules = c .before .before .before in let start = at-add-rules .before .before .before .before in let pre = start .pre in
+    (pre .0, room-1 _ _ (pre .0) (pre .1) (at-add-rules .add-rules .ensures), blank-facts _ _ (pre .0) (pre .1) (at-add-rules .add-rules .ensures))
 
 add-entries-requires : tie.Need-add-entries-requires
-add-entries-requires c κs = (c .before .before .before .before .before .before .before .before .before .before .before .pre .0, low-2 _ _ (c .before .before .before .before .before .before .before .before .before .before .before .pre .0) (c .before .before .before .before .before .before .before .before .before .before .before .pre .1) (c .before .before .before .before .before .before .before .add-rules .ensures) (c .before .before .before .mark-facts .ensures))
+add-entries-requires c κs =
+    let at-mark-facts = c .before .before .before in let at-add-rules = at-mark-facts .before .before .before .before in
+    let start = at-add-rules .before .before .before .before in let pre = start .pre in
+    (pre .0, low-2 _ _ (pre .0) (pre .1) (at-add-rules .add-rules .ensures) (at-mark-facts .mark-facts .ensures))
 
 add-pairs-requires : tie.Need-add-pairs-requires
-add-pairs-requires c κs = (c .before .before .before .before .before .before .before .before .before .before .before .before .before .before .before .pre .0, low-3 _ _ (c .before .before .before .before .before .before .before .before .before .before .before .before .before .before .before .pre .0) (c .before .before .before .before .before .before .before .before .before .before .before .before .before .before .before .pre .1) (c .before .before .before .before .before .before .before .before .before .before .before .add-rules .ensures) (c .before .before .before .before .before .before .before .mark-facts .ensures) (c .before .before .before .add-entries .ensures), ruled-3 _ _ (c .before .before .before .before .before .before .before .before .before .before .before .before .before .before .before .pre .0) (c .before .before .before .before .before .before .before .before .before .before .before .before .before .before .before .pre .1) (c .before .before .before .before .before .before .before .before .before .before .before .add-rules .ensures) (c .before .before .before .before .before .before .before .mark-facts .ensures) (c .before .before .before .add-entries .ensures))
+add-pairs-requires c κs =
+    let at-add-entries = c .before .before .before in let at-mark-facts = at-add-entries .before .before .before .before in
+    let at-add-rules = at-mark-facts .before .before .before .before in let start = at-add-rules .before .before .before .before in let pre = start .pre in (
+      pre .0,
+      low-3 _ _ (pre .0) (pre .1) (at-add-rules .add-rules .ensures) (at-mark-facts .mark-facts .ensures) (at-add-entries .add-entries .ensures),
+      ruled-3 _ _ (pre .0) (pre .1) (at-add-rules .add-rules .ensures) (at-mark-facts .mark-facts .ensures) (at-add-entries .add-entries .ensures),
+    )
 
 mark-firsts-requires : tie.Need-mark-firsts-requires
-mark-firsts-requires c κs = (c .before .before .before .before .before .before .before .before .before .before .before .before .before .before .before .before .before .before .before .pre .0, room-4 _ _ (c .before .before .before .before .before .before .before .before .before .before .before .before .before .before .before .before .before .before .before .pre .0) (c .before .before .before .before .before .before .before .before .before .before .before .before .before .before .before .before .before .before .before .pre .1) (c .before .before .before .before .before .before .before .before .before .before .before .before .before .before .before .add-rules .ensures) (c .before .before .before .before .before .before .before .before .before .before .before .mark-facts .ensures) (c .before .before .before .before .before .before .before .add-entries .ensures) (c .before .before .before .add-pairs .ensures))
+mark-firsts-requires c κs =
+    let at-add-pairs = c .before .before .before in let at-add-entries = at-add-pairs .before .before .before .before in
+    let at-mark-facts = at-add-entries .before .before .before .before in let at-add-rules = at-mark-facts .before .before .before .before in
+    let start = at-add-rules .before .before .before .before in let pre = start .pre in (
+      pre .0,
+      room-4 _ _ (pre .0) (pre .1) (at-add-rules .add-rules .ensures) (at-mark-facts .mark-facts .ensures) (at-add-entries .add-entries .ensures)
+          (at-add-pairs .add-pairs .ensures),
+    )
 
 begin-uses-requires : tie.Need-begin-uses-requires
-begin-uses-requires c κs = (c .before .before .before .before .before .before .before .before .before .before .before .before .before .before .before .before .before .before .before .before .before .before .before .pre .0, room-5 _ _ (c .before .before .before .before .before .before .before .before .before .before .before .before .before .before .before .before .before .before .before .before .before .before .before .pre .0) (c .before .before .before .before .before .before .before .before .before .before .before .before .before .before .before .before .before .before .before .before .before .before .before .pre .1) (c .before .before .before .before .before .before .before .before .before .before .before .before .before .before .before .before .before .before .before .add-rules .ensures) (c .before .before .before .before .before .before .before .before .before .before .before .before .before .before .before .mark-facts .ensures) (c .before .before .before .before .before .before .before .before .before .before .before .add-entries .ensures) (c .before .before .before .before .before .before .before .add-pairs .ensures) (c .before .before .before .mark-firsts .ensures), uses-5 _ _ (c .before .before .before .before .before .before .before .before .before .before .before .before .before .before .before .before .before .before .before .before .before .before .before .pre .0) (c .before .before .before .before .before .before .before .before .before .before .before .before .before .before .before .before .before .before .before .before .before .before .before .pre .1) (c .before .before .before .before .before .before .before .before .before .before .before .before .before .before .before .before .before .before .before .add-rules .ensures) (c .before .before .before .before .before .before .before .before .before .before .before .before .before .before .before .mark-facts .ensures) (c .before .before .before .before .before .before .before .before .before .before .before .add-entries .ensures) (c .before .before .before .before .before .before .before .add-pairs .ensures) (c .before .before .before .mark-firsts .ensures))
+begin-uses-requires c κs =
+    let at-mark-firsts = c .before .before .before in let at-add-pairs = at-mark-firsts .before .before .before .before in
+    let at-add-entries = at-add-pairs .before .before .before .before in let at-mark-facts = at-add-entries .before .before .before .before in
+    let at-add-rules = at-mark-facts .before .before .before .before in let start = at-add-rules .before .before .before .before in let pre = start .pre in (
+      pre .0,
+      room-5 _ _ (pre .0) (pre .1) (at-add-rules .add-rules .ensures) (at-mark-facts .mark-facts .ensures) (at-add-entries .add-entries .ensures)
+          (at-add-pairs .add-pairs .ensures) (at-mark-firsts .mark-firsts .ensures),
+      uses-5 _ _ (pre .0) (pre .1) (at-add-rules .add-rules .ensures) (at-mark-facts .mark-facts .ensures) (at-add-entries .add-entries .ensures)
+          (at-add-pairs .add-pairs .ensures) (at-mark-firsts .mark-firsts .ensures),
+    )
 
 place-uses-requires : tie.Need-place-uses-requires
-place-uses-requires c κs = (c .before .before .before .before .before .before .before .before .before .before .before .before .before .before .before .before .before .before .before .before .before .before .before .before .before .before .before .pre .0, room-6 _ _ (c .before .before .before .before .before .before .before .before .before .before .before .before .before .before .before .before .before .before .before .before .before .before .before .before .before .before .before .pre .0) (c .before .before .before .before .before .before .before .before .before .before .before .before .before .before .before .before .before .before .before .before .before .before .before .before .before .before .before .pre .1) (c .before .before .before .before .before .before .before .before .before .before .before .before .before .before .before .before .before .before .before .before .before .before .before .add-rules .ensures) (c .before .before .before .before .before .before .before .before .before .before .before .before .before .before .before .before .before .before .before .mark-facts .ensures) (c .before .before .before .before .before .before .before .before .before .before .before .before .before .before .before .add-entries .ensures) (c .before .before .before .before .before .before .before .before .before .before .before .add-pairs .ensures) (c .before .before .before .before .before .before .before .mark-firsts .ensures) (c .before .before .before .begin-uses .ensures), uses-6 _ _ (c .before .before .before .before .before .before .before .before .before .before .before .before .before .before .before .before .before .before .before .before .before .before .before .before .before .before .before .pre .0) (c .before .before .before .before .before .before .before .before .before .before .before .before .before .before .before .before .before .before .before .before .before .before .before .before .before .before .before .pre .1) (c .before .before .before .before .before .before .before .before .before .before .before .before .before .before .before .before .before .before .before .before .before .before .before .add-rules .ensures) (c .before .before .before .before .before .before .before .before .before .before .before .before .before .before .before .before .before .before .before .mark-facts .ensures) (c .before .before .before .before .before .before .before .before .before .before .before .before .before .before .before .add-entries .ensures) (c .before .before .before .before .before .before .before .before .before .before .before .add-pairs .ensures) (c .before .before .before .before .before .before .before .mark-firsts .ensures) (c .before .before .before .begin-uses .ensures))
+place-uses-requires c κs =
+    let at-begin-uses = c .before .before .before in let at-mark-firsts = at-begin-uses .before .before .before .before in
+    let at-add-pairs = at-mark-firsts .before .before .before .before in let at-add-entries = at-add-pairs .before .before .before .before in
+    let at-mark-facts = at-add-entries .before .before .before .before in let at-add-rules = at-mark-facts .before .before .before .before in
+    let start = at-add-rules .before .before .before .before in let pre = start .pre in (
+      pre .0,
+      room-6 _ _ (pre .0) (pre .1) (at-add-rules .add-rules .ensures) (at-mark-facts .mark-facts .ensures) (at-add-entries .add-entries .ensures)
+          (at-add-pairs .add-pairs .ensures) (at-mark-firsts .mark-firsts .ensures) (at-begin-uses .begin-uses .ensures),
+      uses-6 _ _ (pre .0) (pre .1) (at-add-rules .add-rules .ensures) (at-mark-facts .mark-facts .ensures) (at-add-entries .add-entries .ensures)
+          (at-add-pairs .add-pairs .ensures) (at-mark-firsts .mark-firsts .ensures) (at-begin-uses .begin-uses .ensures),
+    )
 
 same-length : tie.Need-same-length
-same-length c = (started-none _ _ (c .before .before .before .before .before .before .before .before .before .before .before .before .before .before .before .before .before .before .before .before .before .before .before .before .before .before .before .before .before .before .pre .0) (c .before .before .before .before .before .before .before .before .before .before .before .before .before .before .before .before .before .before .before .before .before .before .before .before .before .before .before .before .before .before .pre .1) (c .before .before .before .before .before .before .before .before .before .before .before .before .before .before .before .before .before .before .before .before .before .before .before .before .before .before .add-rules .ensures) (c .before .before .before .before .before .before .before .before .before .before .before .before .before .before .before .before .before .before .before .before .before .before .mark-facts .ensures) (c .before .before .before .before .before .before .before .before .before .before .before .before .before .before .before .before .before .before .add-entries .ensures) (c .before .before .before .before .before .before .before .before .before .before .before .before .before .before .add-pairs .ensures) (c .before .before .before .before .before .before .before .before .before .before .mark-firsts .ensures) (c .before .before .before .before .before .before .begin-uses .ensures) (c .before .before .place-uses .ensures)) .kept .size
+same-length c =
+    let at-place-uses = c .before .before in let at-begin-uses = at-place-uses .before .before .before .before in
+    let at-mark-firsts = at-begin-uses .before .before .before .before in let at-add-pairs = at-mark-firsts .before .before .before .before in
+    let at-add-entries = at-add-pairs .before .before .before .before in let at-mark-facts = at-add-entries .before .before .before .before in
+    let at-add-rules = at-mark-facts .before .before .before .before in let start = at-add-rules .before .before .before .before in let pre = start .pre in
+    (started-none _ _ (pre .0) (pre .1) (at-add-rules .add-rules .ensures) (at-mark-facts .mark-facts .ensures) (at-add-entries .add-entries .ensures) (at-add-pairs .add-pairs .ensures) (at-mark-firsts .mark-firsts .ensures) (at-begin-uses .begin-uses .ensures) (at-place-uses .place-uses .ensures)) .kept .size
 
 returns : tie.Need-returns
-returns c = started-none _ _ (c .before .before .before .before .before .before .before .before .before .before .before .before .before .before .before .before .before .before .before .before .before .before .before .before .before .before .before .before .before .before .pre .0) (c .before .before .before .before .before .before .before .before .before .before .before .before .before .before .before .before .before .before .before .before .before .before .before .before .before .before .before .before .before .before .pre .1) (c .before .before .before .before .before .before .before .before .before .before .before .before .before .before .before .before .before .before .before .before .before .before .before .before .before .before .add-rules .ensures) (c .before .before .before .before .before .before .before .before .before .before .before .before .before .before .before .before .before .before .before .before .before .before .mark-facts .ensures) (c .before .before .before .before .before .before .before .before .before .before .before .before .before .before .before .before .before .before .add-entries .ensures) (c .before .before .before .before .before .before .before .before .before .before .before .before .before .before .add-pairs .ensures) (c .before .before .before .before .before .before .before .before .before .before .mark-firsts .ensures) (c .before .before .before .before .before .before .begin-uses .ensures) (c .before .before .place-uses .ensures)
+returns c =
+    let at-place-uses = c .before .before in let at-begin-uses = at-place-uses .before .before .before .before in
+    let at-mark-firsts = at-begin-uses .before .before .before .before in let at-add-pairs = at-mark-firsts .before .before .before .before in
+    let at-add-entries = at-add-pairs .before .before .before .before in let at-mark-facts = at-add-entries .before .before .before .before in
+    let at-add-rules = at-mark-facts .before .before .before .before in let start = at-add-rules .before .before .before .before in let pre = start .pre in
+    started-none _ _ (pre .0) (pre .1) (at-add-rules .add-rules .ensures) (at-mark-facts .mark-facts .ensures) (at-add-entries .add-entries .ensures)
+    (at-add-pairs .add-pairs .ensures) (at-mark-firsts .mark-firsts .ensures) (at-begin-uses .begin-uses .ensures) (at-place-uses .place-uses .ensures)
 
 pub fill-spec : {M : Type 1} → statement M
 fill-spec =

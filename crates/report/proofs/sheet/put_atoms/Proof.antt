@@ -25,10 +25,20 @@ verdict-of-requires : tie.Need-verdict-of-requires Inv-loop μ-loop
 verdict-of-requires c κs = omega arith
 
 put-atom-requires : tie.Need-put-atom-requires Inv-loop μ-loop
-put-atom-requires c κs = omega (arith, line-room (verdict (taggedBy 4 (marked (c .before .before .before .before .before .before .args .marks .now)))) (c .before .before .before .loop .a) (c .before .before .before .before .before .before .args .from) (c .before .before .before .loop .at) (meant (c .verdict-of .result)) (c .before .before .before .before .before .before .pre .0) (omega arith) (c .before .before .before .loop .inv .2 .end) (c .verdict-of .ensures), (c .before .before .before .loop .inv .1), (c .before .before .before .before .before .before .pre .2))
+put-atom-requires c κs =
+    let at-loop = c .before .before .before in let start = at-loop .before .before .before in let pre = start .pre in let args = start .args in
+    omega
+    (arith, line-room (verdict (taggedBy 4 (marked (args .marks .now)))) (at-loop .loop .a) (args .from) (at-loop .loop .at) (meant (c .verdict-of .result)) (pre .0) (omega arith) (at-loop .loop .inv .2 .end) (c .verdict-of .ensures), (at-loop .loop .inv .1), (pre .2))
 
 loop-again : tie.Need-loop-again Inv-loop μ-loop
-loop-again c = (omega arith, (c .before .before .put-atom .kept .0) ∙ (c .before .before .before .before .before .before .loop .inv .1), lines-next (verdict (taggedBy 4 (marked (c .before .before .before .before .before .before .before .before .before .args .marks .now)))) (c .before .before .before .before .before .before .loop .a) (c .before .before .before .before .before .before .before .before .before .pre .0) (omega arith) (c .before .before .before .before .before .before .before .before .before .pre .2) (c .before .before .before .before .before .before .loop .inv .2) (c .before .before .before .verdict-of .ensures) (c .before .before .put-atom .ensures))
+loop-again c =
+    let at-put-atom = c .before .before in let at-verdict-of = at-put-atom .before in let at-loop = at-verdict-of .before .before .before in
+    let start = at-loop .before .before .before in let pre = start .pre in (
+      omega arith,
+      (at-put-atom .put-atom .kept .0) ∙ (at-loop .loop .inv .1),
+      lines-next (verdict (taggedBy 4 (marked (start .args .marks .now)))) (at-loop .loop .a) (pre .0) (omega arith) (pre .2) (at-loop .loop .inv .2)
+          (at-verdict-of .verdict-of .ensures) (at-put-atom .put-atom .ensures),
+    )
 
 same-length : tie.Need-same-length Inv-loop μ-loop
 same-length c = (c .before .loop .inv .1)

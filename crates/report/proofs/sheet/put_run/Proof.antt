@@ -12,16 +12,35 @@ use Rattle.report.proofs.sheet.put_run.Statement.{statement}
 use Rattle.report.proofs.sheet.put_run.Tie as tie
 
 put-count-requires : tie.Need-put-count-requires
-put-count-requires c κs = omega (arith, count-length (c .before .before .before .before .before .before .before .args .atoms) (c .before .before .before .before .before .before .before .pre .0 .atoms), (c .before .before .before .before .before .before .before .pre .1))
+put-count-requires c κs =
+    let start = c .before .before .before .before .before .before .before in let pre = start .pre in
+    omega (arith, count-length (start .args .atoms) (pre .0 .atoms), (pre .1))
 
 put-atoms-requires : tie.Need-put-atoms-requires
-put-atoms-requires c κs = (omega (arith, count-length (c .before .before .before .before .before .before .before .before .before .before .before .before .args .atoms) (c .before .before .before .before .before .before .before .before .before .before .before .before .pre .0 .atoms), (c .before .before .before .before .put-count .ensures .end)), (c .before .before .before .before .before .before .before .before .before .before .before .before .pre .0 .atoms), (c .before .before .before .before .put-count .kept .0) ∙ (c .before .before .before .before .before .before .before .before .before .before .before .before .pre .1), (c .before .before .before .before .before .before .before .mark-lines .kept .1 .1 .0) ∙ length-replicate {A = ℕ} 4096 0)
+put-atoms-requires c κs =
+    let at-put-count = c .before .before .before .before in let at-mark-lines = at-put-count .before .before .before in
+    let start = at-mark-lines .before .before .before .before .before in let pre = start .pre in (
+      omega (arith, count-length (start .args .atoms) (pre .0 .atoms), (at-put-count .put-count .ensures .end)),
+      (pre .0 .atoms),
+      (at-put-count .put-count .kept .0) ∙ (pre .1),
+      (at-mark-lines .mark-lines .kept .1 .1 .0) ∙ length-replicate {A = ℕ} 4096 0,
+    )
 
 put-spent-requires : tie.Need-put-spent-requires
-put-spent-requires c κs = omega (arith, spent-length (c .before .before .before .before .before .before .before .before .before .before .before .before .before .before .before .before .args .c .spent) (c .before .before .before .before .before .before .before .before .before .before .before .before .before .before .before .before .args .most) (c .before .before .before .before .before .before .before .before .before .before .before .before .before .before .before .before .pre .0 .spent) (c .before .before .before .before .before .before .before .before .before .before .before .before .before .before .before .before .pre .0 .most), lines-room (verdict (taggedBy 4 (marked (c .before .before .before .before .before .before .before .before .before .before .before .mark-lines .last .1 .1 .0)))) (c .before .before .before .before .before .before .before .before .before .before .before .before .before .before .before .before .args .atoms) (c .before .before .before .before .before .before .before .before .put-count .result) (omega (arith, count-length (c .before .before .before .before .before .before .before .before .before .before .before .before .before .before .before .before .args .atoms) (c .before .before .before .before .before .before .before .before .before .before .before .before .before .before .before .before .pre .0 .atoms), (c .before .before .before .before .before .before .before .before .put-count .ensures .end))) (c .before .before .before .before .before .before .before .before .before .before .before .before .before .before .before .before .pre .0 .atoms), (c .before .before .before .put-atoms .ensures .end), (c .before .before .before .put-atoms .kept .0), (c .before .before .before .before .before .before .before .before .put-count .kept .0), (c .before .before .before .before .before .before .before .before .before .before .before .before .before .before .before .before .pre .1))
+put-spent-requires c κs =
+    let at-put-atoms = c .before .before .before in let at-put-count = at-put-atoms .before .before .before .before .before in
+    let at-mark-lines = at-put-count .before .before .before in let start = at-mark-lines .before .before .before .before .before in let pre = start .pre in
+    let args = start .args in
+    omega
+    (arith, spent-length (args .c .spent) (args .most) (pre .0 .spent) (pre .0 .most), lines-room (verdict (taggedBy 4 (marked (at-mark-lines .mark-lines .last .1 .1 .0)))) (args .atoms) (at-put-count .put-count .result) (omega (arith, count-length (args .atoms) (pre .0 .atoms), (at-put-count .put-count .ensures .end))) (pre .0 .atoms), (at-put-atoms .put-atoms .ensures .end), (at-put-atoms .put-atoms .kept .0), (at-put-count .put-count .kept .0), (pre .1))
 
 returns : tie.Need-returns
-returns c = put-run-parts (c .before .before .before .before .before .before .before .before .before .before .before .before .before .before .mark-lines .last .1 .1 .0) (c .before .before .before .before .before .before .before .before .before .before .before .before .before .before .before .before .before .before .before .args .log .now) (c .before .before .before .before .before .before .before .before .before .before .before .before .before .before .before .before .before .before .before .args .atoms) (c .before .before .before .before .before .before .before .before .before .before .before .before .before .before .before .before .before .before .before .args .c .lines) (c .before .before .before .before .before .before .before .before .before .before .before .before .before .before .before .before .before .before .before .args .c .spent) (c .before .before .before .before .before .before .before .before .before .before .before .before .before .before .before .before .before .before .before .args .most) (c .before .before .before .before .before .before .before .before .before .before .before .before .before .before .before .before .before .before .before .pre .0 .atoms) (c .before .before .before .before .before .before .before .before .before .before .before .before .before .before .before .before .before .before .before .pre .0 .spent) (c .before .before .before .before .before .before .before .before .before .before .before .before .before .before .before .before .before .before .before .pre .0 .most) (c .before .before .before .before .before .before .before .before .before .before .before .before .before .before .before .before .before .before .before .pre .1) (c .before .before .before .before .before .before .before .before .before .before .before .before .before .before .mark-lines .ensures) (c .before .before .before .before .before .before .before .before .before .before .before .put-count .ensures) (c .before .before .before .before .before .before .put-atoms .ensures) (c .before .before .put-spent .ensures)
+returns c =
+    let at-put-spent = c .before .before in let at-put-atoms = at-put-spent .before .before .before .before in
+    let at-put-count = at-put-atoms .before .before .before .before .before in let at-mark-lines = at-put-count .before .before .before in
+    let start = at-mark-lines .before .before .before .before .before in let pre = start .pre in let args = start .args in
+    put-run-parts (at-mark-lines .mark-lines .last .1 .1 .0) (args .log .now) (args .atoms) (args .c .lines) (args .c .spent) (args .most) (pre .0 .atoms) (pre .0 .spent)
+    (pre .0 .most) (pre .1) (at-mark-lines .mark-lines .ensures) (at-put-count .put-count .ensures) (at-put-atoms .put-atoms .ensures) (at-put-spent .put-spent .ensures)
 
 pub put-run-spec : {M : Type 1} → statement M
 put-run-spec =

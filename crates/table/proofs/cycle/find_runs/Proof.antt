@@ -27,7 +27,12 @@ slice-write-first : tie.Need-slice-write-first Inv-loop μ-loop
 slice-write-first c = omega (arith, small c)
 
 loop-again : tie.Need-loop-again Inv-loop μ-loop
-loop-again c = (omega arith, simp length-set (c .before .before .before .loop .inv .1), runs-next _ _ _ _ (c .before .before .loop-test .taken) (strong-read _ _ _ _ (c .before .pair-within .ensures)) (omega (arith, small c)) (c .before .before .before .loop .inv .2))
+loop-again c =
+    let at-loop-test = c .before .before in let at-loop = at-loop-test .before in (
+      omega arith,
+      simp length-set (at-loop .loop .inv .1),
+      runs-next _ _ _ _ (at-loop-test .loop-test .taken) (strong-read _ _ _ _ (c .before .pair-within .ensures)) (omega (arith, small c)) (at-loop .loop .inv .2),
+    )
 
 returns : tie.Need-returns Inv-loop μ-loop
 returns c = runs-all _ _ _ (omega arith) (c .before .loop .inv .2)
