@@ -1,4 +1,4 @@
--- A visit in steps (src/memory/visit.rt): one word grows at a time. In between, the counts are those of tests that lag behind the
+-- A visit in steps (src/visit.rt): one word grows at a time. In between, the counts are those of tests that lag behind the
 -- words of the rules; so they are said here by fields, of any tests.
 use Prim.Native.Nat.{ℕ, _+_, _-_, _*_, _%_, _≤_, _<_}
 use mathlib.Core.Path.{_≡_}
@@ -6,7 +6,7 @@ use mathlib.Core.Bool.{Bool, true, cond}
 use mathlib.Core.List.{List}
 use lib.Dec.{T, ltb, eqb}
 use lib.ListN.{length}
-use Rattle.logic.specs.Tests.{_and_, _or_, isnt, member, countBelow, weigh, upto, pick}
+use Rattle.logic.specs.Tests.{_and_, _or_, isnt, member, countBelow, weigh}
 use Rattle.logic.specs.Theory.{Theory, Kind, isStrict, canSupport, kindOf, headOf, bodyOf}
 use Rattle.table.specs.Pairs.{PairsInOrder}
 use Rattle.memory.specs.Layout.{tagCount, memorySize}
@@ -51,7 +51,7 @@ decidedFor w f r =
     cond (ltb f counteredF) (reached w (f - provedF) r)
     (cond (eqb f counteredF) (reached w 3 r or ltb 0 (w beatenF r)) (reached w 2 r and eqb (w lostF r) (w rivalsF r)))
 
--- whether the stronger rule of pair k fires (field 14) or is out (field 15); and the same, but of rule r's pairs, for tag t, only
+-- whether the stronger rule of pair k fires (beaten) or is out (lost); and the same, but of rule r's pairs, for tag t, only
 -- those below i count
 abbrev pub notifies : Theory → (ℕ → ℕ → ℕ) → ℕ → ℕ → Bool
 notifies d w g k = reached w (g - rivalsBase) (d .pair k .stronger)
@@ -79,7 +79,7 @@ pub record Open (d : Theory) (m : List ℕ) (p b : ℕ → ℕ → Bool) : Type 
   pub index : Indexed d (view m) (useAt m)
   pub counts : CountedBy d (view m) p b
 
--- the fields below 14 stay
+-- the fields below the counts of rivals stay
 pub record Unchanged (m n : List ℕ) : Type 0 where
   pub low : (f i : ℕ) → f < beatenF → view n f i ≡ view m f i
   pub kept : Kept m n
@@ -92,7 +92,7 @@ pub record Decided (d : Theory) (t r : ℕ) (m : List ℕ) : Type 0 where
   pub raised : Raised (has t) r 1 before m
   pub just : T (justReached (view m) t r)
 
--- rule x is tagged that a rule over it fires (t = 2), or is out (t = 3); that rule is a rival if q, the complement of its head, is x's
+-- rule x is notified that a rule over it fires (t = 2), or is out (t = 3); that rule is a rival if q, the complement of its head, is x's
 -- head
 pub record Notified (q x t : ℕ) (m n : List ℕ) : Type 0 where
   pub middle : List ℕ

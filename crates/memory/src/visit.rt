@@ -69,7 +69,7 @@ fn is_free(mem: &[u16], r: usize, t: usize) -> bool
     }
 }
 
-// Whether the rival that rule r was just tagged of has made it countered (t = 2), or unopposed (t = 3).
+// Whether the rival that rule r was just notified of has made it countered (t = 2), or unopposed (t = 3).
 fn reached_by_rival(mem: &[u16], r: usize, t: usize) -> bool
     requires { ⌜ (r < fieldSize) × (memorySize ≤ length (now mem)) ⌝ }
     ensures { λ x. ⌜ x ≡ justReachedByRival (view (now (mem .entry))) t r ⌝ }
@@ -84,7 +84,7 @@ fn reached_by_rival(mem: &[u16], r: usize, t: usize) -> bool
     }
 }
 
-// Rule x is tagged that a rule over it fires (t = 2), or is out (t = 3). That rule is a rival if q, the complement of its head, is
+// Rule x is notified that a rule over it fires (t = 2), or is out (t = 3). That rule is a rival if q, the complement of its head, is
 // the head of x.
 fn notify(mem: &mut [u16], q: usize, x: usize, t: usize)
     requires { ⌜ (x < fieldSize) × (2 ≤ t) × (t < tagCount) × (memorySize ≤ length (now mem)) ⌝ }
@@ -98,7 +98,7 @@ fn notify(mem: &mut [u16], q: usize, x: usize, t: usize)
     bump_if(mem, BY_RIVAL + t, head, both(rival, turns));
 }
 
-// Every rule that rule r is over is tagged.
+// Every rule that rule r is over is notified.
 fn walk(table: &[u8], s: Sizes, mem: &mut [u16], r: usize, t: usize)
     requires { ⌜ WellFormed (theoryIn (now table) s) × (r < s .rules) × (2 ≤ t) × (t < tagCount) × T (canSupport (kindOf (theoryIn (now table) s) r)) ⌝ }
     requires { ⌜ T (reached (view (now mem)) t r) × Open (theoryIn (now table) s) (now mem) (decidedFor (view (now mem))) (notifiedBelow (theoryIn (now table) s) (view (now mem)) t r 0) ⌝ }

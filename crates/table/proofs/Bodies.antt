@@ -17,7 +17,7 @@ use Rattle.logic.proofs.Rising.{risingFrom, rising-snoc, rising-upto, rising-pi
 use Rattle.logic.proofs.Sums.{total-le, weigh-imply}
 use Rattle.logic.proofs.Pigeon.{count-le}
 use Rattle.table.specs.declared.format.Sizes.{Sizes}
-use Rattle.table.specs.Format.{word, spanOf, entriesFrom, entryAt, right, bodyIn}
+use Rattle.table.specs.Format.{word, spanOf, entriesFrom, entryAt, bodyIn}
 use Rattle.table.specs.Bodies.{entriesBelow, entryByte, bodyPart, bodyBytes, bodyLiterals, wordsOf, Body}
 use Rattle.table.specs.declared.judge.Refusal.{Refusal}
 use Rattle.table.specs.declared.judge.Judgement.the-variants.{Accepted, Refused}

@@ -21,7 +21,7 @@ use Rattle.table.specs.declared.judge.Refusal.{Refusal}
 use Rattle.table.specs.declared.judge.Refusal.the-variants.{Truncated, TooLarge, WrongLength, BadKind, OutOfRange, Unsorted, Cyclic}
 use Rattle.table.specs.declared.judge.Judgement.{Judgement}
 use Rattle.table.specs.declared.judge.Judgement.the-variants.{Accepted, Refused}
-use Rattle.table.specs.Format.{word, sizesOf, spanOf, left, right, leftIn, rightIn, factsFrom, rulesFrom, entriesFrom, pairsFrom, entryAt, pairAt, ruleAt, bodyIn, theoryIn}
+use Rattle.table.specs.Format.{sizesOf, spanOf, left, right, leftIn, rightIn, factsFrom, rulesFrom, entriesFrom, pairsFrom, entryAt, pairAt, ruleAt, bodyIn, theoryIn}
 use Rattle.table.specs.Refusals.{oversize, wrongLength, someAtLeast, badKind, outOfRange, disorder, cycle, judged, judgementOf}
 
 -- No number applies: the sizes are those of the first five words, and each fault's test fails.

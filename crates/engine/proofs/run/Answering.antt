@@ -9,7 +9,7 @@ use lib.ListN.{length, drop, replicate, length-append}
 use lib.Seq.{length-take-le}
 use Rattle.logic.specs.Theory.{Theory, proper, entries, size}
 use Rattle.logic.specs.System.{System}
-use Rattle.logic.specs.Worklist.{logOf, lines, initial, rest, run}
+use Rattle.logic.specs.Worklist.{logOf, lines, initial, run}
 use Rattle.logic.specs.Reading.{systemOf}
 use Rattle.logic.specs.Plain.{plainSystem, bound}
 use Rattle.logic.specs.Demands.{Demands}

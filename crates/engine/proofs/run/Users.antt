@@ -1,16 +1,15 @@
 -- The rules that a conclusion visits, by the memory's uses of its literal. Assumes nothing.
-use Prim.Native.Nat.{ℕ, zero, suc, _+_, _-_, _*_, _≤_, _<_}
-use native.Mathlib.Nat.{le-refl, lt-irrefl}
+use Prim.Native.Nat.{ℕ, suc, _+_, _-_, _*_, _≤_, _<_}
+use native.Mathlib.Nat.{le-refl}
 use native.Mathlib.Omega.{arith}
 use mathlib.Core.Path.{_≡_, refl, sym, _∙_, ap, ap₂, subst}
-use mathlib.Core.Logic.{⊎-elim}
 use mathlib.Core.Bool.{Bool, true, false, cond}
-use mathlib.Core.List.{List, [], _∷_, _++_, map, map-append}
-use lib.Dec.{T, eqb, eqb→eq}
-use lib.ListN.{length, getD, take, length-append, length-map, List·getD-append}
-use lib.Seq.{take-suc, take-all, getD-at}
-use Rattle.logic.specs.Tests.{_and_, _or_, isnt, member, upto, pick}
-use Rattle.logic.specs.Theory.{Theory, complement, isStrict, kindOf, headOf, bodyOf}
+use mathlib.Core.List.{List, [], _∷_, _++_}
+use lib.Dec.{eqb}
+use lib.ListN.{length, getD, take}
+use lib.Seq.{take-suc, take-all}
+use Rattle.logic.specs.Tests.{_and_, _or_, isnt, upto, pick}
+use Rattle.logic.specs.Theory.{Theory, complement, isStrict, kindOf, headOf}
 use Rattle.logic.specs.Reading.{visits, visited, heads, withTags}
 use Rattle.logic.proofs.Lists.{pick-append}
 use Rattle.logic.proofs.Theories.{heads-below}

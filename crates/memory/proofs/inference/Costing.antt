@@ -1,14 +1,13 @@
 -- The cost of a conclusion, by the uses of its literal and the words of the rules that use it. Assumes nothing.
 use Prim.Native.Nat.{ℕ, zero, suc, _+_, _-_, _*_, _/_, _%_, _≤_, _<_}
-use native.Mathlib.Nat.{add-zero, lt-irrefl, le-antisymm, mod-lt, eq-or-lt-of-le}
+use native.Mathlib.Nat.{add-zero, le-antisymm, mod-lt}
 use native.Mathlib.Omega.{arith}
 use mathlib.Core.Path.{_≡_, refl, sym, _∙_, ap, ap₂, subst}
 use mathlib.Core.Logic.{_⊎_, inl, inr, ⊎-elim}
 use mathlib.Core.Bool.{Bool, true, false, cond, not}
 use mathlib.Core.List.{List, [], _∷_, _++_, map}
-use lib.Dec.{T, ltb, ltb→lt, lt→ltb, eqb, eqb→eq, eqb-refl, eqb·suc-suc, eqb·suc-zero}
+use lib.Dec.{T, ltb, ltb→lt, lt→ltb, eqb, eqb→eq, eqb-refl, eqb·suc-suc}
 use lib.ListN.{length, getD}
-use borrow.Author.Tests.{lt-ltb}
 use Rattle.logic.specs.Tests.{_and_, _or_, isnt, member, distinct, total, weigh, countBelow, upto, pick}
 use Rattle.logic.specs.Theory.{Theory, kindOf, bodyOf, isStrict}
 use Rattle.logic.specs.Inference.{allHave, oneHas}
@@ -21,7 +20,7 @@ use Rattle.logic.proofs.Bodies.{all-moves, one-moves}
 use Rattle.logic.proofs.Literals.{join-split, split-below}
 use Rattle.table.specs.declared.format.Sizes.{Sizes}
 use Rattle.table.specs.declared.judge.Judgement.the-variants.{Accepted}
-use Rattle.table.specs.Format.{entryAt, bodyIn, theoryIn}
+use Rattle.table.specs.Format.{theoryIn}
 use Rattle.table.specs.Refusals.{judgementOf}
 use Rattle.table.proofs.Legal.{legal, limited}
 use Rattle.table.proofs.Sorted.{bodies-apart}

@@ -1,15 +1,15 @@
 -- A conclusion is processed: the rules that use its literal are visited, and its mark is set. Assumes nothing.
 use Prim.Native.Nat.{ℕ, zero, suc, _+_, _-_, _*_, _/_, _%_, _≤_, _<_}
-use native.Mathlib.Nat.{le-refl, not-suc-le-zero, mod-lt}
+use native.Mathlib.Nat.{mod-lt}
 use native.Mathlib.Omega.{arith}
 use mathlib.Core.Path.{_≡_, refl, sym, _∙_, ap, ap₂, subst, fun-ext}
 use mathlib.Core.Logic.{_⊎_, ⊎-elim}
 use mathlib.Core.Bool.{Bool, true, false}
-use mathlib.Core.List.{List, [], _∷_, _++_, map, map-append}
+use mathlib.Core.List.{List, [], _∷_, _++_}
 use lib.Dec.{T, eqb, eqb→eq, eqb-refl}
-use lib.ListN.{length, getD, set, take, drop, length-append, length-map, length-set, take-append-drop, List·getD-append}
-use lib.Seq.{take-suc, take-all, drop-cons, getD-append-seam}
-use Rattle.logic.specs.Tests.{_and_, _or_, isnt, member, distinct, total, weigh, upto, pick}
+use lib.ListN.{length, getD, set, take, drop, length-set}
+use lib.Seq.{take-suc, take-all}
+use Rattle.logic.specs.Tests.{_and_, _or_, isnt, member, distinct, weigh, upto, pick}
 use Rattle.logic.specs.Theory.{Theory, bodyOf}
 use Rattle.logic.proofs.Tests.{and-intro, and-left, and-right, eq→eqb, of-false, of-true, or-elim, or-left, or-right, test-cases, test-eq, true-of}
 use Rattle.logic.proofs.Lists.{distinct-before, distinct-pick, distinct-upto, member-getD, member-last, member-left, member-nil, member-pick, member-pick-intro, member-snoc, member-upto-intro, pick-le}

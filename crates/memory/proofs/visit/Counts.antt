@@ -280,12 +280,12 @@ unopposed-turns a n l k h =
     let x : weigh (eqb a n and eqb l k) 1 ≡ 0 = weigh-false _ 1 (λ t. let e : l ≡ k = eqb→eq _ _ (and-right _ _ t) in omega arith) in
     let y : weigh (eqb a n and eqb (l + 1) k) 1 ≡ weigh (eqb (l + 1) k and eqb a n) 1 = ap (λ z. weigh z 1) (and-swap _ _) in omega arith
 
--- how a rule that is tagged becomes countered (t = 2) or unopposed (t = 3)
+-- how a rule that is notified becomes countered (t = 2) or unopposed (t = 3)
 abbrev pub NotifiedTurns : ℕ → Type 0
 NotifiedTurns t = (w v : ℕ → ℕ → ℕ) (x : ℕ) (a : Bool) (k : Kind) → Grown (rivalsBy t) x (weigh a 1) w v → v (rivalsBy t) x ≤ v rivalsF x
     → Turns (allowed (byRival t) k and decidedFor v (byRival t) x) (allowed (byRival t) k and decidedFor w (byRival t) x) (a and justReachedByRival v t x)
 
--- nothing was tagged
+-- nothing was notified
 unheard : (x y : Bool) → x ≡ y → Turns x y false
 unfolding weigh
 unheard true y e = subst (λ z. Turns true z false) e refl

@@ -1,16 +1,16 @@
--- A store to a mark changes no other field, so the memory stands as it stood; what is processed or written changes at that conclusion
+-- A store to a mark changes no other field, so the memory's invariant stays; what is processed or written changes at that conclusion
 -- alone. Assumes nothing.
 use Prim.Native.Nat.{ℕ, _+_, _-_, _*_, _/_, _%_, _≤_, _<_}
 use native.Mathlib.Nat.{div-add-mod}
 use native.Mathlib.Omega.{arith}
-use mathlib.Core.Path.{_≡_, refl, sym, _∙_, ap, ap₂, subst, fun-ext}
+use mathlib.Core.Path.{_≡_, sym, _∙_, ap, ap₂, subst, fun-ext}
 use mathlib.Core.Logic.{⊎-elim}
-use mathlib.Core.Bool.{Bool, true, false, not}
+use mathlib.Core.Bool.{Bool, false, not}
 use mathlib.Core.List.{List}
 use lib.Dec.{T, eqb, eqb→eq, eqb-refl}
 use lib.ListN.{length, set, length-set}
 use Rattle.logic.specs.Tests.{_or_, isnt}
-use Rattle.logic.specs.Theory.{Theory, Kind, strict, defeasible, defeater, isStrict}
+use Rattle.logic.specs.Theory.{Theory}
 use Rattle.logic.proofs.Literals.{join-div, join-mod}
 use Rattle.logic.proofs.Tests.{eq→eqb, isnt-intro, not-isnt, of-false, or-false, or-right, test-cases, true-of}
 use Rattle.memory.specs.Layout.{tagCount, fieldCount, fieldSize, usesSize, memorySize}

@@ -2,13 +2,13 @@
 use Prim.Native.Nat.{ℕ, _+_, _-_, _*_, _%_, _≤_, _<_}
 use native.Mathlib.Omega.{arith}
 use mathlib.Core.Path.{_≡_, refl, sym, _∙_, ap, ap₂, subst, fun-ext}
-use mathlib.Core.Logic.{_⊎_, inl, inr, ⊎-elim}
+use mathlib.Core.Logic.{_⊎_, inr, ⊎-elim}
 use mathlib.Core.Bool.{Bool, true, false, cond}
 use mathlib.Core.List.{List, map}
 use lib.Dec.{T, ltb, eqb, eqb→eq, eqb-refl, ltb→lt, lt→ltb}
 use lib.ListN.{length, set, length-set}
-use Rattle.logic.specs.Tests.{_and_, _or_, isnt, member, weigh, upto, pick}
-use Rattle.logic.specs.Theory.{Theory, Kind, strict, defeasible, defeater, isStrict, canSupport, kindOf, headOf, bodyOf}
+use Rattle.logic.specs.Tests.{_and_, _or_, weigh, upto}
+use Rattle.logic.specs.Theory.{Theory, Kind, isStrict, canSupport, kindOf, headOf}
 use Rattle.logic.proofs.Tests.{and-intro, and-left, and-right, at-most, cond-cases, cond-false, cond-true, eq→eqb, isnt-elim, isnt-intro, lt-suc-cases, none-above, of-false, of-true, or-elim, or-left, test-cases, test-eq, true-of}
 use Rattle.logic.proofs.Sums.{weigh-false, weigh-true}
 use Rattle.logic.proofs.Pigeon.{count-le}
@@ -90,7 +90,7 @@ raised-unchanged h g = record { low = λ f i l. g .words .field f i (λ e. omega
 pub unchanged-trans : {m n o : List ℕ} → Unchanged m n → Unchanged n o → Unchanged m o
 unchanged-trans x y = record { low = λ f i h. y .low f i h ∙ x .low f i h; kept = kept-then (x .kept) (y .kept) }
 
--- what a visit leaves, of the memory after its first step, from which the fields below 14 stay
+-- what a visit leaves, of the memory after its first step, from which the fields below the counts stay
 pub visited-of : (d : Theory) (m m' n : List ℕ) (t r : ℕ) → t < tagCount → Raised (has t) r 1 m m' → Unchanged m' n → Invariant d n → Visited d t r m n
 visited-of d m m' n t r h g y s =
     record {
@@ -137,7 +137,7 @@ own-turns w v t r f k l h i a g b =
     at : (u : ℕ → ℕ → ℕ) → decidedFor u f r ≡ reached u t r
     at u = ap (λ z. decidedFor u z r) i ∙ decided-own u t r h
 
--- of the words below 14, only that of r and t differs
+-- of the words below the counts of rivals, only that of r and t differs
 reached-elsewhere : (d : Theory) (m m' n : List ℕ) (t r u x : ℕ) → t < tagCount → u < tagCount → Raised (has t) r 1 m m' → Unchanged m' n → (u ≡ t → x ≡ r → ⊥)
     → reached (view n) u x ≡ reached (view m) u x
 reached-elsewhere d m m' n t r u x h k g y o =
@@ -247,7 +247,7 @@ module _ (d : Theory) (m m1 m2 m3 : List ℕ) (t r : ℕ) (lo : 2 ≤ t) (hi : t
         (elsewhere f i l k) (test-cases (eqb f (rivalsBy t) and eqb (d .pair i .stronger) r))) own-second),
   )
 
-  -- r's pairs are to be tagged
+  -- r's pairs are to be notified
   module _ (y : T (eqb (view m1 (has t) r) (threshold t (view m sizeF r)) and canSupport (kindOf d r))) where
     pub own-reached : T (reached (view m3) t r)
     own-reached = subst T (sym last) (turns-yes _ _ _ turns (and-left _ _ y) .1)
@@ -318,7 +318,7 @@ pub threshold-odd : (t n : ℕ) → (t % 2 ≡ 0 → ⊥) → 1 ≡ threshold t 
 unfolding threshold
 threshold-odd t n e = sym (cond-false (eqb (t % 2) 0) _ _ (λ u. e (eqb→eq _ _ u)))
 
--- the two counts that grow when a rule is tagged
+-- the two counts that grow when a rule is notified
 pub notified-of : (q x t h : ℕ) (a b c : Bool) (m m' n : List ℕ) → h ≡ view m headF x → a ≡ eqb h q → b ≡ justReachedByRival (view m') t x → c ≡ a and b
     → Raised (rivalsBy t) x (weigh a 1) m m' → Raised (byRival t) h (weigh c 1) m' n → Notified q x t m n
 notified-of q x t h a b c m m' n e f g k r u =

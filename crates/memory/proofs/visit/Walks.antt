@@ -1,8 +1,8 @@
--- The walk over the pairs of the rule that is visited: each weaker rule that is a rival is tagged. Assumes nothing.
+-- The walk over the pairs of the rule that is visited: each weaker rule that is a rival is notified. Assumes nothing.
 use Prim.Native.Nat.{ℕ, _+_, _-_, _*_, _≤_, _<_}
 use native.Mathlib.Omega.{arith}
 use mathlib.Core.Path.{_≡_, refl, sym, _∙_, ap, subst}
-use mathlib.Core.Logic.{_⊎_, inl, inr, ⊎-elim}
+use mathlib.Core.Logic.{_⊎_, inl, ⊎-elim}
 use mathlib.Core.Bool.{Bool, true, false}
 use mathlib.Core.List.{List}
 use lib.Dec.{T, ltb, eqb, eqb→eq, eqb-refl, ltb→lt, lt→ltb}
@@ -47,7 +47,7 @@ to-same d w t r i j g k f =
     (λ h. to-notified d w t r j g k (f e .0 h) ∙ sym (to-notified d w t r i g k h)) (at-most i k))
     (λ n. to-other d w t r j g k n ∙ sym (to-other d w t r i g k n)) (test-cases (own d t r g k))
 
--- the tests read words below 14
+-- the tests read words below the counts of rivals
 to-unchanged : (d : Theory) (m n : List ℕ) (t r i g k : ℕ) → beatenF ≤ g → g < rivalsEnd → Unchanged m n → notifiedBelow d (view n) t r i g k ≡ notifiedBelow d (view m) t r i g k
 unfolding notifiedBelow
 to-unchanged d m n t r i g k lo hi s =
@@ -119,7 +119,7 @@ module _ (d : Theory) (s : WellFormed d) (t r : ℕ) (m₀ m : List ℕ) (i : �
           ),
         )
 
-    -- one turn: the weaker rule is tagged
+    -- one turn: the weaker rule is notified
     module _ (can : T (canSupport (kindOf d r))) (q : ℕ) (c : q ≡ complement (headOf d r)) (n : List ℕ) (g : Notified q (d .pair i .weaker) t m n) where
       weak : d .pair i .weaker < d .rules
       weak = s .order .weak i h
@@ -159,7 +159,7 @@ module _ (d : Theory) (s : WellFormed d) (t r : ℕ) (m₀ m : List ℕ) (i : �
               ap (λ z. weigh z 1) (test-eq _ _ (λ u. subst T rival (and-left _ _ u)) (λ u. and-intro _ _ (subst T (sym rival) u) (of-true _ a))) in
               omega arith
 
-      -- no rule has more rivals that are tagged than rivals
+      -- no rule has more rivals that are notified than rivals
       bound : view (g .middle) (rivalsBy t) (d .pair i .weaker) ≤ view (g .middle) rivalsF (d .pair i .weaker)
       bound =
           let a : view (g .middle) (rivalsBy t) (d .pair i .weaker) ≡ rivalsOf d (notifiedBelow d (view m) t r (i + 1) (rivalsBy t)) (d .pair i .weaker) = first .counts .rules (rivalsBy t) (d .pair i .weaker) (omega arith) (omega arith) weak in

@@ -1,6 +1,6 @@
 -- `engine::tally::process` meets its contract. Assumes nothing.
 use native.Mathlib.Omega.{arith}
-use Rattle.engine.proofs.run.Trying.{atoms-in, few}
+use Rattle.engine.proofs.run.Trying.{atoms-in}
 use Rattle.engine.proofs.run.Tallies.{stepped-stops, stepped-works}
 use borrow.Author.Needs.{needs}
 use Rattle.engine.proofs.tally.process.Statement.{statement}

@@ -1,4 +1,4 @@
--- `memory::inference::follows` meets its contract: each tag's test is its inference rule (proofs/Following.antt). Assumes nothing.
+-- `memory::inference::follows` meets its contract: each tag's test is its inference rule (proofs/inference/Following.antt). Assumes nothing.
 use borrow.Author.Needs.{needs}
 use Prim.Native.Nat.{ℕ, _*_, _/_, _<_}
 use native.Mathlib.Nat.{mod-lt}

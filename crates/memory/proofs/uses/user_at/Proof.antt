@@ -2,7 +2,6 @@
 use mathlib.Core.Path.{_∙_}
 use Rattle.table.specs.Format.{theoryIn}
 use Rattle.memory.proofs.uses.Users.{use-is, use-small}
-use borrow.Author.Needs.{needs}
 use Rattle.memory.proofs.uses.user_at.Statement.{statement}
 use Rattle.memory.proofs.uses.user_at.Tie as tie
 

@@ -1,4 +1,4 @@
--- `memory::visit::walk` meets its contract. The loop's invariant is `Walking` of proofs/Walks.antt: of the rule's own pairs those below `i` are tagged. Assumes nothing.
+-- `memory::visit::walk` meets its contract. The loop's invariant is `Walking` of proofs/visit/Walks.antt: of the rule's own pairs those below `i` are notified. Assumes nothing.
 use Rattle.table.proofs.Pairs.{strong-read, weak-read}
 use Rattle.memory.proofs.visit.Walks.{Walking, opposite-is, turn-asks, turn-next, walk-end, walk-start}
 use native.Mathlib.Omega.{arith}

@@ -1,6 +1,6 @@
 -- `table::format::left_word` meets its contract. Assumes nothing.
 use borrow.Author.Tests.{lt-ltb, le-ltb}
-use Rattle.table.specs.Format.{word, leftIn}
+use Rattle.table.specs.Format.{leftIn}
 use borrow.Author.Needs.{needs}
 use Rattle.table.proofs.format.left_word.Statement.{statement}
 use Rattle.table.proofs.format.left_word.Tie as tie

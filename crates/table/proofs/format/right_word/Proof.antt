@@ -1,7 +1,7 @@
 -- `table::format::right_word` meets its contract. Assumes nothing.
 use Rattle.table.proofs.Reading.{right-read}
 use borrow.Author.Tests.{le-ltb}
-use Rattle.table.specs.Format.{word, rightIn}
+use Rattle.table.specs.Format.{rightIn}
 use borrow.Author.Needs.{needs}
 use Rattle.table.proofs.format.right_word.Statement.{statement}
 use Rattle.table.proofs.format.right_word.Tie as tie
