@@ -1,4 +1,4 @@
-// What came beside what was wanted: a difference where the two are not the same.
+// What came beside what was wanted: a difference where the two are not equal.
 use libc::STDOUT_FILENO;
 
 // What is compared, by its place among the names.
@@ -30,6 +30,7 @@ const WANTED: usize = 11;
 const NAMES: [u8; 108] =
     *b"   judged  refused finished    lines   worked    spent   length      log  scratch     byte     came   wanted";
 
+// The place is the index of a word or a byte, 0 for a number.
 pub struct Difference {
     pub what: usize,
     pub place: usize,
@@ -45,12 +46,10 @@ pub fn print_number(text: &[u8], n: usize) {
 }
 
 fn print_named(name: usize, n: usize) {
-    if name < 12 {
-        let names = NAMES;
-        let from = 9 * name;
-        let to = from + 9;
-        print_number(&names[from..to], n);
-    }
+    let names = NAMES;
+    let from = 9 * (name % 12);
+    let to = from + 9;
+    print_number(&names[from..to], n);
 }
 
 impl Difference {

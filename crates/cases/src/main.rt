@@ -1,5 +1,6 @@
-// Runs the cases that are not theorems, from the data files, and compares. A line for each file says how many records it has and how
-// many of them gave what they must; before it a line for each other record names the first difference.
+// Runs the cases that are not theorems, from the data files, and compares. Each file has a line with the number of its records and of
+// those that gave what they must. Before it, each other record has a line: the file, the record's number, what differs first and
+// its place, what came and what was wanted.
 mod difference;
 mod noise;
 mod records;
@@ -20,7 +21,7 @@ pub enum Layout {
     Sheets,
 }
 
-// Whether a record whose table has n bytes is the same.
+// Whether a record, whose table has n bytes, gives what it must.
 fn is_same(file: &[u8], layout: Layout, fd: i32, record: u32, n: u32) -> bool {
     let buffer = stream::bytes(fd, n);
     let table = stream::front(&buffer, n);
@@ -39,7 +40,7 @@ fn print_counts(file: &[u8], records: u32, same: u32) {
     io::write_all(STDOUT_FILENO, b"\n");
 }
 
-// A file that is not there has no records.
+// The count of a record's table has four bytes where it is wide, else two. A file that is not there has no records.
 fn try_file(file: &[u8], layout: Layout, wide: bool) {
     let fd = os::open_read(file);
     let mut same: u32 = 0;

@@ -116,12 +116,21 @@ fn cleared(refused: u32) -> u32 {
 
 // The first difference of a run.
 pub fn run_differs(fd: i32, record: u32, table: &[u8], want: Run) -> Difference {
-    let mut log = noisy(record);
-    let mut scratch = noisy(record / 2);
+    let log_seed = record % 32768;
+    let scratch_seed = log_seed + 32768;
+    let mut log = noisy(log_seed);
+    let mut scratch = noisy(scratch_seed);
     let n = (want.log % 65536) as usize;
     let k = (want.scratch % 65536) as usize;
     let answer = run(table, want.budget, &mut log[0..n], &mut scratch[0..k]);
     let d = compare_answer(judged(table), answer, want);
-    let d = compare_words(d, LOG, &log, fd, want.words, record);
-    compare_words(d, SCRATCH, &scratch, fd, cleared(want.refused), record / 2)
+    let d = compare_words(d, LOG, &log, fd, want.words, log_seed);
+    compare_words(
+        d,
+        SCRATCH,
+        &scratch,
+        fd,
+        cleared(want.refused),
+        scratch_seed,
+    )
 }

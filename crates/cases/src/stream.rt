@@ -1,21 +1,19 @@
-// The data files, read from start to end. The low byte of a number comes first. Past the end of a file every byte of a number is
-// read as 255, so that a count there is at least END, as the mark that ends base.bin and sheets.bin is.
-
-// More bytes than any field has.
+// The data files, read from start to end. The low byte of a number comes first. Past the end of a file a number is read as if every
+// byte were 255, so that a count there is at least END, as is the mark that ends base.bin and sheets.bin. Every other count is smaller.
 pub const END: u32 = 65535;
 
 pub fn join(low: u8, high: u8) -> u16 {
     low as u16 + 256 * (high as u16)
 }
 
-// The next two bytes.
+// A number of two bytes.
 pub fn word(fd: i32) -> u16 {
     let mut bytes = [255u8; 2];
     io::read_full(fd, &mut bytes);
     join(bytes[0], bytes[1])
 }
 
-// The next four bytes.
+// A number of four bytes.
 pub fn long(fd: i32) -> u32 {
     let low = word(fd) as u32;
     let high = word(fd) as u32;
@@ -36,9 +34,9 @@ pub fn bytes(fd: i32, n: u32) -> [u8; 65536] {
     buffer
 }
 
-// The first n of the bytes.
-pub fn front(bytes: &[u8; 65536], n: u32) -> &[u8] {
-    let all: &[u8] = bytes;
+// The first n of such bytes.
+pub fn front(buffer: &[u8; 65536], n: u32) -> &[u8] {
+    let all: &[u8] = buffer;
     let k = (n % 65536) as usize;
     &all[0..k]
 }
