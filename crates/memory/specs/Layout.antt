@@ -1,5 +1,5 @@
 -- How the words of the memory are laid out: fields, each with a word for every literal or for every rule, then the uses of literals.
--- Each of these numbers stands here and in src/layout.rt.
+-- Those that the code needs stand in src/layout.rt too.
 use Prim.Native.Nat.{ℕ}
 
 -- the tags of a literal; a conclusion is the literal times their number, and the tag
