@@ -16,3 +16,4 @@ pub mod Readings
 pub mod Bodies
 pub mod Costs
 pub mod Plain
+pub mod Pairs

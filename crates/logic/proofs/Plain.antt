@@ -34,11 +34,11 @@ module _ (d : Theory) where
   unfolding strictFor
   strict-head r q t = eqb→eq _ _ (and-right _ _ t)
 
-  supporter-head : (r q : ℕ) → T (supporter d r q) → headOf d r ≡ q
+  pub supporter-head : (r q : ℕ) → T (supporter d r q) → headOf d r ≡ q
   unfolding supporter
   supporter-head r q t = eqb→eq _ _ (and-right _ _ t)
 
-  attacker-head : (r q : ℕ) → T (attacker d r q) → headOf d r ≡ complement q
+  pub attacker-head : (r q : ℕ) → T (attacker d r q) → headOf d r ≡ complement q
   unfolding attacker
   attacker-head r q t = eqb→eq _ _ t
 

@@ -108,7 +108,10 @@ rows =
     -- it, so its pair is never paid.
     row (theory 1 [] (rule strict 0 [] ∷ rule strict 1 (0 ∷ 1 ∷ []) ∷ []) (over 0 1 ∷ [])) 16 true (0 ∷ 2 ∷ []) 2 10 16 (go ∷ []) ∷
     -- 12. A fact 2 and a rule from 0 and 2 to 0: the rule rests on its own head, and the loop refutes nothing, open.
-    row (theory 2 (2 ∷ []) (rule defeasible 0 (0 ∷ 2 ∷ []) ∷ []) []) 18 true (1 ∷ 5 ∷ 8 ∷ 13 ∷ 7 ∷ 10 ∷ 15 ∷ []) 7 14 18 («open» ∷ go ∷ []) ∷ []
+    row (theory 2 (2 ∷ []) (rule defeasible 0 (0 ∷ 2 ∷ []) ∷ []) []) 18 true (1 ∷ 5 ∷ 8 ∷ 13 ∷ 7 ∷ 10 ∷ 15 ∷ []) 7 14 18 («open» ∷ go ∷ []) ∷
+    -- 13. Row 9 without its pair, whose heads are not complementary: the same log, for one less at the start and one less where
+    -- rule 1 is decided.
+    row (theory 2 [] (rule strict 0 [] ∷ rule strict 2 (0 ∷ 1 ∷ []) ∷ []) []) 18 true (0 ∷ 5 ∷ 13 ∷ 2 ∷ 7 ∷ 9 ∷ 15 ∷ 11 ∷ []) 8 18 18 (go ∷ split ∷ []) ∷ []
 
 -- All rows hold: proofs/Answers.antt computes it.
 unfoldable pub casesHold : Bool

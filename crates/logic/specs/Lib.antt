@@ -5,6 +5,7 @@ pub mod System
 pub mod Worklist
 pub mod Reading
 pub mod Plain
+pub mod Pairs
 pub mod Demands
 pub mod Verdict
 pub mod Cycle
