@@ -1,17 +1,19 @@
 -- The judgement, fault by fault. Assumes nothing.
 use Prim.Native.Nat.{ℕ, _+_, _*_, _≤_, _<_}
-use mathlib.Core.Path.{_≡_, sym, _∙_, ap}
-use mathlib.Core.Bool.{Bool, true, false}
-use mathlib.Core.List.{List}
+use mathlib.Core.Path.{_≡_, refl, sym, _∙_, ap}
+use mathlib.Core.Bool.{Bool, true, false, cond}
+use mathlib.Core.List.{List, [], _∷_}
 use borrow.Author.Tests.{lt-ltb, le-ltb, eq-eqb, ne-eqb}
-use lib.ListN.{length}
+use lib.Dec.{ltb}
+use lib.ListN.{length, getD}
 use Rattle.logic.specs.Tests.{isnt}
 use Rattle.table.specs.declared.format.Sizes.{Sizes}
-use Rattle.table.specs.declared.judge.Refusal.the-variants.{Truncated, TooLarge, WrongLength, BadKind, OutOfRange, Unsorted, Cyclic}
+use Rattle.table.specs.declared.judge.Refusal.{Refusal}
+use Rattle.table.specs.declared.judge.Refusal.the-variants.{Truncated, TooLarge, WrongLength, BadKind, OutOfRange, Unsorted, Cyclic, ShortScratch, ShortLog}
 use Rattle.table.specs.declared.judge.Judgement.{Judgement}
 use Rattle.table.specs.declared.judge.Judgement.the-variants.{Accepted, Refused}
 use Rattle.table.specs.Format.{sizesOf, spanOf}
-use Rattle.table.specs.Refusals.{oversize, wrongLength, badKind, outOfRange, disorder, cycle, judged, judgementOf}
+use Rattle.table.specs.Refusals.{numberOf, oversize, wrongLength, badKind, outOfRange, disorder, cycle, judged, judgementOf, refusedBy, faults, firstFrom, Judged}
 
 -- a test read as a flag
 pub flag : {r t v : Bool} → r ≡ t → r ≡ v → t ≡ v
@@ -25,14 +27,30 @@ pub right-length : (b : List ℕ) (s : Sizes) (span : ℕ) → span ≡ spanOf s
 unfolding wrongLength isnt
 right-length b s span e f = simp (eq-eqb (length b) (10 + 4 * spanOf s) (f ∙ ap (λ k. 10 + 4 * k) e))
 
-pub judged-short : (b : List ℕ) → length b < 10 → Refused Truncated ≡ judgementOf b
+-- the number of a judgement, where that of what it goes on to past a fault is known
+number-past : (t : Bool) (n : Refusal) (j : Judgement) {k : ℕ} → refusedBy j ≡ k → refusedBy (cond t (Refused n) j) ≡ cond t (numberOf n) k
+unfolding refusedBy
+number-past true n j e = refl
+number-past false n j e = e
+
+judged-number : (b : List ℕ) → refusedBy (judgementOf b) ≡ firstFrom 1 (faults b (sizesOf b))
+unfolding judgementOf judged firstFrom refusedBy
+judged-number b =
+    number-past (ltb (length b) 10) Truncated _ (number-past (oversize (sizesOf b)) TooLarge _ (number-past (wrongLength b (sizesOf b)) WrongLength _
+    (number-past (badKind b (sizesOf b)) BadKind _ (number-past (outOfRange b (sizesOf b)) OutOfRange _
+    (number-past (disorder b (sizesOf b)) Unsorted _ (number-past (cycle b (sizesOf b)) Cyclic (Accepted (sizesOf b)) refl))))))
+
+judged-as : (b : List ℕ) (x : Judgement) → x ≡ judgementOf b → Judged b x
+judged-as b x e = record { judgement = e; number = ap refusedBy e ∙ judged-number b }
+
+pub judged-short : (b : List ℕ) → length b < 10 → Judged b (Refused Truncated)
 unfolding judgementOf
-judged-short b h = simp (lt-ltb (length b) 10 h)
+judged-short b h = judged-as b (Refused Truncated) (simp (lt-ltb (length b) 10 h))
 
 -- by the sizes that were read
-pub judged-by : (b : List ℕ) (s : Sizes) (x : Judgement) → s ≡ sizesOf b → 10 ≤ length b → x ≡ judged b s → x ≡ judgementOf b
+pub judged-by : (b : List ℕ) (s : Sizes) (x : Judgement) → s ≡ sizesOf b → 10 ≤ length b → x ≡ judged b s → Judged b x
 unfolding judgementOf
-judged-by b s x e h f = simp (le-ltb (length b) 10 h) (f ∙ ap (judged b) e)
+judged-by b s x e h f = judged-as b x (simp (le-ltb (length b) 10 h) (f ∙ ap (judged b) e))
 
 module _ (b : List ℕ) (s : Sizes) where
   pub judged-2 : oversize s ≡ true → Refused TooLarge ≡ judged b s
@@ -65,3 +83,22 @@ module _ (b : List ℕ) (s : Sizes) where
       → Accepted s ≡ judged b s
   unfolding judged
   judged-0 e f g h i j = simp (e, f, g, h, i, j)
+
+-- a refusal is told by its number
+numbered : ℕ → Refusal
+numbered n = getD (Truncated ∷ Truncated ∷ TooLarge ∷ WrongLength ∷ BadKind ∷ OutOfRange ∷ Unsorted ∷ Cyclic ∷ ShortScratch ∷ ShortLog ∷ []) n Truncated
+
+numbered-back : (n : Refusal) → numbered (numberOf n) ≡ n
+unfolding numbered
+numbered-back Truncated = refl
+numbered-back TooLarge = refl
+numbered-back WrongLength = refl
+numbered-back BadKind = refl
+numbered-back OutOfRange = refl
+numbered-back Unsorted = refl
+numbered-back Cyclic = refl
+numbered-back ShortScratch = refl
+numbered-back ShortLog = refl
+
+pub one-number : (m n : Refusal) → numberOf m ≡ numberOf n → m ≡ n
+one-number m n e = sym (numbered-back m) ∙ ap numbered e ∙ numbered-back n

@@ -1,7 +1,8 @@
 -- Document 01, What the console turns away: each fault as a test, and the lowest that applies.
 use Prim.Native.Nat.{ℕ, zero, suc, _+_, _-_, _*_}
+use mathlib.Core.Path.{_≡_}
 use mathlib.Core.Bool.{Bool, cond}
-use mathlib.Core.List.{List}
+use mathlib.Core.List.{List, [], _∷_}
 use lib.Dec.{ltb, leb, eqb}
 use lib.ListN.{length}
 use Rattle.logic.specs.Tests.{_and_, _or_, isnt, every, some}
@@ -96,3 +97,21 @@ judged b s =
 
 unfoldable pub judgementOf : List ℕ → Judgement
 judgementOf b = cond (ltb (length b) 10) (Refused Truncated) (judged b (sizesOf b))
+
+-- The paper's number of each judgement: 0 where the table is accepted. (The values of one that is accepted are the sizes in it.)
+unfoldable pub refusedBy : Judgement → ℕ
+refusedBy (Accepted s) = 0
+refusedBy (Refused n) = numberOf n
+
+-- the faults of a table in the order of their numbers, from 1 on, and the number of the first that applies, 0 if none does
+abbrev pub faults : List ℕ → Sizes → List Bool
+faults b s = ltb (length b) 10 ∷ oversize s ∷ wrongLength b s ∷ badKind b s ∷ outOfRange b s ∷ disorder b s ∷ cycle b s ∷ []
+
+unfoldable pub firstFrom : ℕ → List Bool → ℕ
+firstFrom n [] = 0
+firstFrom n (f ∷ fs) = cond f n (firstFrom (n + 1) fs)
+
+-- What `judge` hands over: the judgement, and its number.
+pub record Judged (b : List ℕ) (j : Judgement) : Type 0 where
+  pub judgement : j ≡ judgementOf b
+  pub number : refusedBy j ≡ firstFrom 1 (faults b (sizesOf b))

@@ -136,9 +136,9 @@ pub fn has_cycle(table: &[u8], s: Sizes) -> bool
     requires { ⌜ (oversize s ≡ false) × (outOfRange (now table) s ≡ false) × (disorder (now table) s ≡ false) × (length (now table) ≡ 10 + 4 * spanOf s) ⌝ }
     ensures { λ r. ⌜ r ≡ cycle (now (table .entry)) s ⌝ }
 {
-    let mut degree = [0u16; 1024];
-    let mut first = [0u16; 1024];
-    let mut queue = [0u16; 1024];
+    let mut degree = [0u16; Sizes::MAX_RULES as usize];
+    let mut first = [0u16; Sizes::MAX_RULES as usize];
+    let mut queue = [0u16; Sizes::MAX_RULES as usize];
     count_stronger(table, s, &mut degree);
     find_runs(table, s, &mut first);
     let end = start(s.rules, &degree, &mut queue);

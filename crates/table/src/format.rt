@@ -69,6 +69,14 @@ impl Sizes {
 
     pub const MAX_PAIRS: u16 = 2048;
 
+    // The bytes of the longest table.
+    pub const MAX_BYTES: usize = 10
+        + 4
+            * (Sizes::MAX_FACTS as usize
+                + Sizes::MAX_RULES as usize
+                + Sizes::MAX_ENTRIES as usize
+                + Sizes::MAX_PAIRS as usize);
+
     // T = F + N + B + P, the length of each of the two arrays.
     pub fn span(self) -> usize
         ensures { λ r. ⌜ r ≡ spanOf self ⌝ }

@@ -1,6 +1,6 @@
 // Document 01, What the console turns away: the judgement of a table.
 ghost use mathlib.Core.Path.{_≡_};
-ghost use Rattle.table.specs.Refusals.{numberOf, oversize, judgementOf};
+ghost use Rattle.table.specs.Refusals.{numberOf, oversize, Judged};
 use crate::cycle::has_cycle;
 use crate::format::Sizes;
 use crate::format::read_sizes;
@@ -69,7 +69,7 @@ fn too_large(s: Sizes) -> bool
 
 // The lowest number that applies anywhere in the table, or none.
 pub fn judge(table: &[u8]) -> Judgement
-    ensures { λ r. ⌜ r ≡ judgementOf (now (table .entry)) ⌝ }
+    ensures { λ r. ⌜ Judged (now (table .entry)) r ⌝ }
 {
     if table.len() < 10 {
         return Judgement::Refused(Refusal::Truncated);

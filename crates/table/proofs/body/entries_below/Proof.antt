@@ -1,3 +1,4 @@
+-- `table::body::entries_below` meets its contract. The loop's invariant: the entries passed are counted. Assumes nothing.
 use mathlib.Core.Path.{refl}
 use Rattle.logic.specs.Tests.{total}
 use Rattle.logic.proofs.Pigeon.{counted-le, counted-next, counted-all}
@@ -11,10 +12,6 @@ use Rattle.table.specs.Bodies.{entriesBelow}
 use borrow.Author.Needs.{needs}
 use Rattle.table.proofs.body.entries_below.Statement.{statement}
 use Rattle.table.proofs.body.entries_below.Tie as tie
-use Rattle.table.proofs.body.entries_below.Reads as reads
-use Rattle.table.proofs.body.entries_below.Lts as lts
-use Rattle.table.proofs.body.add_if.Reads as add-if-reads
-use Rattle.table.proofs.format.read_entry.Reads as read-entry-reads
 
 abbrev Inv-loop : tie.InvT-loop
 Inv-loop table s r end n₀ i₀ n i = (i ≤ end) × (n ≡ countBelow i (λ j. ltb (entryAt table s j .rule) r))
@@ -22,42 +19,18 @@ Inv-loop table s r end n₀ i₀ n i = (i ≤ end) × (n ≡ countBelow i (λ j.
 abbrev μ-loop : tie.MeasureT-loop
 μ-loop table s r end n₀ i₀ n i = end - i
 
--- src/body.rt:25:15
-cast-end : tie.Need-cast-end Inv-loop μ-loop
-cast-end c = search needs
-
--- src/body.rt:28:5
 loop-holds : tie.Need-loop-holds Inv-loop μ-loop
 unfolding total
 loop-holds c = (omega arith, refl)
 
--- src/body.rt:29:13
-read-entry-requires : tie.Need-read-entry-requires Inv-loop μ-loop
-read-entry-requires c κs = search needs
-
--- src/body.rt:30:24
-cast-add-if : tie.Need-cast-add-if Inv-loop μ-loop
-cast-add-if c = search needs
-
--- src/body.rt:30:9
 add-if-requires : tie.Need-add-if-requires Inv-loop μ-loop
 add-if-requires c κs = omega (arith, counted-le _ _ (c .before .before .before .loop .inv .1))
 
--- src/body.rt:31:9
-add-i : tie.Need-add-i Inv-loop μ-loop
-add-i c = search needs
-
--- src/body.rt:28:5
-loop-less : tie.Need-loop-less Inv-loop μ-loop
-loop-less c = search needs
-
--- src/body.rt:28:5
 loop-again : tie.Need-loop-again Inv-loop μ-loop
 loop-again c =
     let at-loop = c .before .before .before .before in let start = at-loop .before .before .before in
     (omega arith, counted-next _ _ (at-loop .loop .inv .1) (c .add-if .ensures) (ap (λ e. ltb (e .rule) (start .args .r)) (c .before .before .read-entry .ensures)))
 
--- src/body.rt:22:1
 returns : tie.Need-returns Inv-loop μ-loop
 unfolding entriesBelow
 returns c = counted-all _ _ _ (c .before .loop .inv .1) (c .before .loop .inv .0) (c .loop-test .left)
@@ -66,14 +39,5 @@ pub entries-below-spec : {M : Type 1} → statement M
 entries-below-spec =
     tie.close
     (tie.spec
-    Inv-loop
-    μ-loop
-    cast-end
-    loop-holds
-    read-entry-requires
-    cast-add-if
-    add-if-requires
-    add-i
-    loop-less
-    loop-again
-    returns)
+    Inv-loop μ-loop (λ c. search needs) loop-holds (λ c κs. search needs) (λ c. search needs) add-if-requires (λ c. search needs)
+    (λ c. search needs) loop-again returns)
