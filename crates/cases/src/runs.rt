@@ -11,8 +11,7 @@ use crate::difference::WORKED;
 use crate::noise::noise;
 use crate::noise::noisy;
 use crate::stream::word;
-use engine::answer::Answer;
-use engine::answer::Counts;
+use engine::answer::Numbers;
 use engine::run::run;
 use table::judge::Judgement;
 use table::judge::judge;
@@ -40,13 +39,7 @@ fn judged(table: &[u8]) -> u32 {
     }
 }
 
-fn compare_numbers(
-    judged: u32,
-    refused: u32,
-    finished: u32,
-    came: Counts,
-    want: Run,
-) -> Difference {
+fn compare_numbers(judged: u32, came: Numbers, want: Run) -> Difference {
     let d = Difference {
         what: JUDGED,
         place: 0,
@@ -54,24 +47,11 @@ fn compare_numbers(
         // 8 and 9 are refusals of the buffers.
         wanted: want.refused % 9 % 8,
     };
-    d.or(REFUSED, 0, refused, want.refused)
-        .or(FINISHED, 0, finished, want.finished)
+    d.or(REFUSED, 0, came.refused, want.refused)
+        .or(FINISHED, 0, came.finished, want.finished)
         .or(LINES, 0, came.lines, want.lines)
         .or(WORKED, 0, came.worked, want.worked)
         .or(SPENT, 0, came.spent, want.spent)
-}
-
-fn compare_answer(judged: u32, came: Answer, want: Run) -> Difference {
-    let none = Counts {
-        lines: 0,
-        worked: 0,
-        spent: 0,
-    };
-    match came {
-        Answer::Refused(why) => compare_numbers(judged, why.number() as u32, 0, none, want),
-        Answer::Stopped(n) => compare_numbers(judged, 0, 0, n, want),
-        Answer::Finished(n) => compare_numbers(judged, 0, 1, n, want),
-    }
 }
 
 // What a word must be: the next word of the file in the log, 0 in the scratch, and noise past the first n words.
@@ -123,7 +103,7 @@ pub fn run_differs(fd: i32, record: u32, table: &[u8], want: Run) -> Difference 
     let n = (want.log % 65536) as usize;
     let k = (want.scratch % 65536) as usize;
     let answer = run(table, want.budget, &mut log[0..n], &mut scratch[0..k]);
-    let d = compare_answer(judged(table), answer, want);
+    let d = compare_numbers(judged(table), answer.numbers(), want);
     let d = compare_words(d, LOG, &log, fd, want.words, log_seed);
     compare_words(
         d,

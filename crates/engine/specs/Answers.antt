@@ -17,19 +17,22 @@ use Rattle.table.specs.declared.judge.Judgement.the-variants as judgement
 use Rattle.table.specs.Format.{theoryOf}
 use Rattle.table.specs.Refusals as refusals
 use Rattle.engine.specs.declared.answer.Counts.{Counts}
+use Rattle.engine.specs.declared.answer.Numbers.{Numbers}
 use Rattle.engine.specs.declared.answer.Answer.{Answer}
 use Rattle.engine.specs.declared.answer.Answer.the-variants.{Refused, Stopped, Finished}
 
--- The paper's number and values of each answer: a refusal's number, 0 for a run; and lines, worked, spent.
-unfoldable pub numberOf : Answer → ℕ
-numberOf (Refused n) = refusals.numberOf n
-numberOf (Stopped c) = 0
-numberOf (Finished c) = 0
+-- The paper's number and values of each answer: the number of a refusal, alone; or 0, whether the run finished (1) or was stopped (0),
+-- and "lines, worked, spent".
+abbrev pub refusalNumbers : ℕ → Numbers
+refusalNumbers n = record { refused = n; finished = 0; lines = 0; worked = 0; spent = 0 }
 
-unfoldable pub countsOf : Answer → Counts
-countsOf (Refused n) = record { lines = 0; worked = 0; spent = 0 }
-countsOf (Stopped c) = c
-countsOf (Finished c) = c
+abbrev pub runNumbers : ℕ → Counts → Numbers
+runNumbers finished c = record { refused = 0; finished = finished; lines = c .lines; worked = c .worked; spent = c .spent }
+
+unfoldable pub numbersOf : Answer → Numbers
+numbersOf (Refused n) = refusalNumbers (refusals.numberOf n)
+numbersOf (Stopped c) = runNumbers 0 c
+numbersOf (Finished c) = runNumbers 1 c
 
 -- "lent scratch below 32,768 16-bit words", "lent log below 4A 16-bit words", after 1 to 7
 unfoldable pub withBuffers : Judgement → ℕ → ℕ → Judgement
@@ -58,9 +61,10 @@ unfoldable pub scratchAfter : Judgement → List ℕ → List ℕ
 scratchAfter (judgement.Accepted s) scratch = replicate 32768 0 ++ drop 32768 scratch
 scratchAfter (judgement.Refused n) scratch = scratch
 
--- What `run` hands over: the answer, both buffers whole, and, with the run, demands 2 and 3.
-pub record Ran (b : List ℕ) (budget : ℕ) (log log′ scratch scratch′ : List ℕ) (a : Answer) : Type 0 where
-  pub answer : a ≡ answerTo (withBuffers (refusals.judgementOf b) (length scratch) (length log)) (runOf b budget)
+-- What a run hands over: the answer's numbers, both buffers whole, and, with the run, demands 2 and 3. The numbers determine the answer
+-- (proofs/answer/Numbering.antt: `one-answer`).
+pub record Ran (b : List ℕ) (budget : ℕ) (log log′ scratch scratch′ : List ℕ) (n : Numbers) : Type 0 where
+  pub answer : n ≡ numbersOf (answerTo (withBuffers (refusals.judgementOf b) (length scratch) (length log)) (runOf b budget))
   pub written : log′ ≡ logAfter (withBuffers (refusals.judgementOf b) (length scratch) (length log)) (runOf b budget) log
   pub cleared : scratch′ ≡ scratchAfter (withBuffers (refusals.judgementOf b) (length scratch) (length log)) scratch
   pub demands : (s : Sizes) → refusals.judgementOf b ≡ judgement.Accepted s

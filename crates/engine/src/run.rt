@@ -9,7 +9,7 @@ ghost use Rattle.table.specs.declared.judge.Judgement.the-variants.{Accepted};
 ghost use Rattle.table.specs.Format.{theoryIn};
 ghost use Rattle.table.specs.Refusals.{judgementOf};
 ghost use Rattle.engine.specs.declared.answer.Answer.the-variants.{Refused};
-ghost use Rattle.engine.specs.Answers.{Ran};
+ghost use Rattle.engine.specs.Answers.{numbersOf, Ran};
 ghost use Rattle.engine.specs.Working.{Worked};
 use crate::answer::Answer;
 use crate::answer::Counts;
@@ -23,6 +23,9 @@ use table::judge::Judgement;
 use table::judge::Refusal;
 use table::judge::judge;
 ghost use Rattle.memory.specs.Layout.{tagCount, memorySize};
+
+// The words of scratch that a run needs.
+pub const SCRATCH: usize = MEMORY_SIZE;
 
 // A + F + N + B + P.
 fn size_of(s: Sizes) -> u32
@@ -58,9 +61,9 @@ fn run_started(
 // The run of an accepted table. It leaves the scratch cleared.
 fn run_accepted(table: &[u8], s: Sizes, budget: u32, log: &mut [u16], scratch: &mut [u16]) -> Answer
     requires { ⌜ judgementOf (now table) ≡ Accepted s ⌝ }
-    ensures { λ r. ⌜ Ran (now (table .entry)) budget (now (log .entry)) (now (log .exit)) (now (scratch .entry)) (now (scratch .exit)) r ⌝ }
+    ensures { λ r. ⌜ Ran (now (table .entry)) budget (now (log .entry)) (now (log .exit)) (now (scratch .entry)) (now (scratch .exit)) (numbersOf r) ⌝ }
 {
-    if scratch.len() < MEMORY_SIZE {
+    if scratch.len() < SCRATCH {
         return refuse(Refusal::ShortScratch, log, scratch);
     }
     if log.len() < 4 * (s.atoms as usize) {
@@ -81,7 +84,7 @@ fn run_accepted(table: &[u8], s: Sizes, budget: u32, log: &mut [u16], scratch: &
 }
 
 pub fn run(table: &[u8], budget: u32, log: &mut [u16], scratch: &mut [u16]) -> Answer
-    ensures { λ r. ⌜ Ran (now (table .entry)) budget (now (log .entry)) (now (log .exit)) (now (scratch .entry)) (now (scratch .exit)) r ⌝ }
+    ensures { λ r. ⌜ Ran (now (table .entry)) budget (now (log .entry)) (now (log .exit)) (now (scratch .entry)) (now (scratch .exit)) (numbersOf r) ⌝ }
 {
     match judge(table) {
         Judgement::Accepted(s) => run_accepted(table, s, budget, log, scratch),

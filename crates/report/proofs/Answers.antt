@@ -7,16 +7,14 @@ use Rattle.logic.specs.Inference.{allHave, oneHas, follows}
 use Rattle.logic.specs.Worklist.{put, grow, proceed, run}
 use Rattle.logic.specs.Reading.{visits, heads, decides, withTags, systemOf}
 use Rattle.logic.specs.Cycle.{prune, cyclic}
-use Rattle.logic.specs.Cases as logic
-use Rattle.logic.specs.Cases.{both, sameList}
+use Rattle.logic.specs.Cases.{sameList}
 use Rattle.table.specs.Format.{word, leftIn, rightIn, kindOf, kindMeant, bodyIn, theoryIn}
 use Rattle.table.specs.Refusals.{oversize, wrongLength, badKind, outOfRange, sectionFrom, sectionSize, leftFrom, rises, disorder, cycle, judged, judgementOf}
-use Rattle.engine.specs.Answers as engine
-use Rattle.engine.specs.Answers.{countsOf, withBuffers, answerTo, logAfter}
+use Rattle.engine.specs.Answers.{numbersOf, withBuffers, answerTo, logAfter}
 use Rattle.report.specs.Text.{digits, decimal, wordOf}
 use Rattle.report.specs.Sheet.{atomLine, atomLines, countLine, spentLine, runSheet, refusedSheet, sheetBy}
-use Rattle.report.specs.Cases.{bytesOf, row, isFinished, verdictsOf, answers, gives, allGive, caseOne, rows, caseOneSheet, casesHold}
+use Rattle.report.specs.Cases.{bytesOf, row, verdictsOf, wordsOf, sameNumbers, givesBy, gives, allGive, caseOne, rows, caseOneSheet, casesHold}
 
 pub cases-hold : T casesHold
-unfolding _and_ _or_ isnt every some everyOf someOf empty total weigh upto pick isStrict canSupport strictFor supporter attacker superior allHave oneHas follows put grow proceed run visits heads decides withTags systemOf prune cyclic both sameList logic.numberOf word leftIn rightIn kindOf kindMeant bodyIn theoryIn oversize wrongLength badKind outOfRange sectionFrom sectionSize leftFrom rises disorder cycle judged judgementOf engine.numberOf countsOf withBuffers answerTo logAfter digits decimal wordOf atomLine atomLines countLine spentLine runSheet refusedSheet sheetBy bytesOf row isFinished verdictsOf answers gives allGive caseOne rows caseOneSheet casesHold
+unfolding _and_ _or_ isnt every some everyOf someOf empty total weigh upto pick isStrict canSupport strictFor supporter attacker superior allHave oneHas follows put grow proceed run visits heads decides withTags systemOf prune cyclic sameList word leftIn rightIn kindOf kindMeant bodyIn theoryIn oversize wrongLength badKind outOfRange sectionFrom sectionSize leftFrom rises disorder cycle judged judgementOf numbersOf withBuffers answerTo logAfter digits decimal wordOf atomLine atomLines countLine spentLine runSheet refusedSheet sheetBy bytesOf row verdictsOf wordsOf sameNumbers givesBy gives allGive caseOne rows caseOneSheet casesHold
 cases-hold = tt

@@ -12,6 +12,8 @@ use lib.ListN.{length, getD, set, take, replicate, length-replicate, getD-replic
 use lib.Seq.{take-suc, getD-set-same, getD-set-other}
 use Rattle.logic.specs.Tests.{_and_, member}
 use Rattle.logic.specs.Reading.{taggedBy}
+use Rattle.logic.specs.Theory.{atom, complement}
+use Rattle.logic.specs.Inference.{+∂, −∂}
 use Rattle.logic.specs.Verdict.{Verdict, go, hold, split, «open», verdict}
 use Rattle.logic.proofs.Tests.{test-cases, test-eq, false-of, eq→eqb}
 use Rattle.logic.proofs.Lists.{member-nil, member-last, member-left, member-snoc}
@@ -59,27 +61,23 @@ pub all-marked : (m log : List ℕ) {i k n : ℕ} → i ≤ k → k ≤ i → ((
     → marked m x ≡ member x (take k log)
 all-marked m log h l f x b = f x b ∙ ap (λ z. member x (take z log)) (le-antisymm h l)
 
--- the verdict by an atom's four lines
-pub verdict-by : (f : ℕ → Bool) (a : ℕ) {proved opposed refuted unopposed : Bool} → f (8 * a + 2) ≡ proved → f (8 * a + 6) ≡ opposed → f (8 * a + 3) ≡ refuted
-    → f (8 * a + 7) ≡ unopposed → verdict (taggedBy 4 f) a ≡ cond proved go (cond opposed hold (cond (refuted and unopposed) split «open»))
-verdict-by f a {proved} {opposed} {refuted} {unopposed} p o r u =
-    ap₂ (λ x (y : Verdict). cond x go y) (ap f two ∙ p)
-    (ap₂ (λ x (y : Verdict). cond x hold y) (ap f six ∙ o) (ap₂ (λ x y. cond (x and y) split «open») (ap f three ∙ r) (ap f seven ∙ u)))
+-- the verdict by an atom's four tests
+verdict-from : (h : ℕ → ℕ → Bool) (a : ℕ) {proved opposed refuted unopposed : Bool} → h (2 * a) +∂ ≡ proved → h (2 * a + 1) +∂ ≡ opposed → h (2 * a) −∂ ≡ refuted
+    → h (2 * a + 1) −∂ ≡ unopposed → verdict h a ≡ cond proved go (cond opposed hold (cond (refuted and unopposed) split «open»))
+verdict-from h a p o r u =
+    ap₂ (λ x (y : Verdict). cond x go y) p (ap₂ (λ x (y : Verdict). cond x hold y) o (ap₂ (λ x y. cond (x and y) split «open») r u))
+
+-- by the literal that says that it holds, and its complement
+pub verdict-by : (h : ℕ → ℕ → Bool) (q n : ℕ) {proved opposed refuted unopposed : Bool} → q ≡ 2 * atom q → n ≡ complement q → h q +∂ ≡ proved → h n +∂ ≡ opposed
+    → h q −∂ ≡ refuted → h n −∂ ≡ unopposed → verdict h (atom q) ≡ cond proved go (cond opposed hold (cond (refuted and unopposed) split «open»))
+verdict-by h q n e f p o r u =
+    verdict-from h (atom q) (ap (λ x. h x +∂) (sym e) ∙ p) (ap (λ x. h x +∂) other ∙ o) (ap (λ x. h x −∂) (sym e) ∙ r) (ap (λ x. h x −∂) other ∙ u)
   where
-    two : 4 * (2 * a) + 2 ≡ 8 * a + 2
-    two = omega arith
-
-    six : 4 * (2 * a + 1) + 2 ≡ 8 * a + 6
-    six = omega arith
-
-    three : 4 * (2 * a) + 3 ≡ 8 * a + 3
-    three = omega arith
-
-    seven : 4 * (2 * a + 1) + 3 ≡ 8 * a + 7
-    seven = omega arith
+    other : 2 * atom q + 1 ≡ n
+    other = omega arith
 
 -- two tests that agree on an atom's four lines give one verdict
 pub verdict-same : (f g : ℕ → Bool) (a : ℕ) → ((x : ℕ) → x < 8 * a + 8 → f x ≡ g x) → verdict (taggedBy 4 f) a ≡ verdict (taggedBy 4 g) a
 verdict-same f g a h =
-    verdict-by f a (h (8 * a + 2) (omega arith)) (h (8 * a + 6) (omega arith)) (h (8 * a + 3) (omega arith)) (h (8 * a + 7) (omega arith))
-    ∙ sym (verdict-by g a refl refl refl refl)
+    verdict-from (taggedBy 4 f) a (h _ (omega arith)) (h _ (omega arith)) (h _ (omega arith)) (h _ (omega arith))
+    ∙ sym (verdict-from (taggedBy 4 g) a refl refl refl refl)

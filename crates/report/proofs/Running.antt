@@ -19,16 +19,17 @@ use Rattle.logic.proofs.Lists.{member-left, member-last}
 use Rattle.logic.proofs.Plain.{plain-demands, plain-finishes, conclusions-below}
 use Rattle.table.specs.declared.format.Sizes.{Sizes}
 use Rattle.table.specs.declared.judge.Refusal.{Refusal}
-use Rattle.table.specs.declared.judge.Refusal.the-variants.{Truncated, TooLarge, WrongLength, BadKind, OutOfRange, Unsorted, Cyclic, ShortScratch, ShortLog}
 use Rattle.table.specs.declared.judge.Judgement.{Judgement}
 use Rattle.table.specs.declared.judge.Judgement.the-variants as judgement
 use Rattle.table.specs.Format.{theoryIn, theoryOf, sizesOf}
 use Rattle.table.specs.Refusals.{numberOf, judgementOf}
+use Rattle.table.proofs.Numbers.{number-range}
 use Rattle.table.proofs.Legal.{legal, Limited, limited, ranged, proper-theory, all-entries}
 use Rattle.engine.specs.declared.answer.Counts.{Counts}
 use Rattle.engine.specs.declared.answer.Answer.{Answer}
 use Rattle.engine.specs.declared.answer.Answer.the-variants.{Refused, Stopped, Finished}
-use Rattle.engine.specs.Answers.{withBuffers, runOf, countsIn, answerTo, logAfter, Ran}
+use Rattle.engine.specs.Answers.{numbersOf, withBuffers, runOf, countsIn, answerTo, logAfter, Ran}
+use Rattle.engine.proofs.answer.Numbering.{answer-is}
 use Rattle.report.specs.Text.{decimal, refusedWord, newline}
 use Rattle.report.specs.Sheet.{runSheet, refusedSheet, budgetOf, sheetBy, sheetOf, Printed}
 use Rattle.report.specs.Printing.{Put, FitsRun, Fits, sheetTo}
@@ -38,15 +39,7 @@ use Rattle.report.proofs.Puts.{room-left, put-put, put-zeros}
 
 -- a refusal's number has one digit
 pub number-small : (n : Refusal) → numberOf n < 10
-number-small Truncated = omega arith
-number-small TooLarge = omega arith
-number-small WrongLength = omega arith
-number-small BadKind = omega arith
-number-small OutOfRange = omega arith
-number-small Unsorted = omega arith
-number-small Cyclic = omega arith
-number-small ShortScratch = omega arith
-number-small ShortLog = omega arith
+number-small n = omega (arith, number-range n .1)
 
 -- An accepted table: its bound is below 100,000, and the run under it finishes.
 module _ (b : List ℕ) (s : Sizes) (e : judgementOf b ≡ judgement.Accepted s) where
@@ -112,7 +105,7 @@ module _ (b : List ℕ) (s : Sizes) (e : judgementOf b ≡ judgement.Accepted s)
         ap (λ l. runSheet (s .atoms) l (runOf b most .spent) most) whole
         ∙ ap₂ (λ a k. runSheet a (logOf (runOf b k)) (runOf b k .spent) k) (sym atoms-of) (m ∙ sym bound-of)
 
-module _ {b log log′ scratch scratch′ : List ℕ} {a : Answer} {most : ℕ} (r : Ran b most log log′ scratch scratch′ a) (k : length log ≡ 2048) (l : length scratch ≡ 32768) (s : Sizes) (z : s ≡ sizesOf b)
+module _ {b log log′ scratch scratch′ : List ℕ} (a : Answer) {most : ℕ} (r : Ran b most log log′ scratch scratch′ (numbersOf a)) (k : length log ≡ 2048) (l : length scratch ≡ 32768) (s : Sizes) (z : s ≡ sizesOf b)
     (m : most ≡ 5 * s .atoms + s .facts + s .rules + 3 * s .entries + 3 * s .pairs) where
   by-judgement : (j : Judgement) → judgementOf b ≡ j → (sheetTo (s .atoms) most log′ a ≡ sheetBy j b) × Fits (s .atoms) most log′ a
   unfolding withBuffers answerTo logAfter sheetTo sheetBy Fits
@@ -120,7 +113,7 @@ module _ {b log log′ scratch scratch′ : List ℕ} {a : Answer} {most : ℕ} 
       subst (λ x. (sheetTo (s .atoms) most log′ x ≡ sheetBy (judgement.Refused n) b) × Fits (s .atoms) most log′ x) (sym same) (refl, tt)
     where
       same : a ≡ Refused n
-      same = r .answer ∙ ap (λ j. answerTo (withBuffers j (length scratch) (length log)) (runOf b most)) e
+      same = answer-is r ∙ ap (λ j. answerTo (withBuffers j (length scratch) (length log)) (runOf b most)) e
   by-judgement (judgement.Accepted t) e =
       subst (λ x. (sheetTo (s .atoms) most log′ x ≡ sheetBy (judgement.Accepted t) b) × Fits (s .atoms) most log′ x) (sym same)
       (cond-cases (λ x. (sheetTo (s .atoms) most log′ x ≡ sheetBy (judgement.Accepted t) b) × Fits (s .atoms) most log′ x)
@@ -138,7 +131,7 @@ module _ {b log log′ scratch scratch′ : List ℕ} {a : Answer} {most : ℕ} 
           ∙ (simp (le-ltb (length scratch) 32768 (omega arith), le-ltb (length log) (4 * t .atoms) (omega (arith, few b t e .atoms))))
 
       same : a ≡ cond (runOf b most .finished) (Finished (countsIn (runOf b most))) (Stopped (countsIn (runOf b most)))
-      same = r .answer ∙ ap (λ j. answerTo j (runOf b most)) room
+      same = answer-is r ∙ ap (λ j. answerTo j (runOf b most)) room
 
       written : log′ ≡ logOf (runOf b most) ++ drop (lines (runOf b most)) log
       written = r .written ∙ ap (λ j. logAfter j (runOf b most) log) room

@@ -6,26 +6,16 @@ use mathlib.Core.List.{List, _++_}
 use lib.Dec.{eqb}
 use lib.ListN.{length, take, drop, getD, replicate}
 use Rattle.logic.specs.Tests.{member}
-use Rattle.logic.specs.Verdict as logic
 use Rattle.table.specs.Refusals.{numberOf}
 use Rattle.engine.specs.declared.answer.Counts.{Counts}
 use Rattle.engine.specs.declared.answer.Answer.{Answer}
 use Rattle.engine.specs.declared.answer.Answer.the-variants.{Refused, Stopped, Finished}
 use Rattle.report.specs.Sheet.{runSheet, refusedSheet}
-use Rattle.report.specs.declared.verdict.Verdict.{Verdict}
-use Rattle.report.specs.declared.verdict.Verdict.the-variants.{Go, Hold, Split, Open}
 
 -- A text was put at a place, and r is the place after it.
 pub record Put (out : List ℕ) (at : ℕ) (text out′ : List ℕ) (r : ℕ) : Type 0 where
   pub bytes : out′ ≡ take at out ++ text ++ drop (at + length text) out
   pub end : r ≡ at + length text
-
--- The verdict that each case of the enum means.
-unfoldable pub meant : Verdict → logic.Verdict
-meant Go = logic.go
-meant Hold = logic.hold
-meant Split = logic.split
-meant Open = logic.«open»
 
 -- the lines that an array of marks has
 unfoldable pub marked : List ℕ → ℕ → Bool

@@ -3,7 +3,10 @@ use Prim.Native.Nat.{ℕ, zero, suc, _+_, _-_, _*_, _/_, _%_}
 use mathlib.Core.Bool.{cond}
 use mathlib.Core.List.{List, [], _∷_, _++_}
 use lib.Dec.{ltb}
-use Rattle.logic.specs.Verdict.{Verdict, go, hold, split, «open»}
+use Rattle.logic.specs.Verdict as logic
+use Rattle.logic.specs.Verdict.{go, hold, split, «open»}
+use Rattle.report.specs.declared.verdict.Verdict.{Verdict}
+use Rattle.report.specs.declared.verdict.Verdict.the-variants.{Go, Hold, Split, Open}
 
 -- "Numbers stand in decimal.": the digit of a number below 10; the digits of a number, which are those of its tenth part and its last
 -- one, so that 0 leads in 0 alone. The first argument bounds the steps: a number takes no more than itself.
@@ -22,8 +25,14 @@ unfoldable pub valueFrom : ℕ → List ℕ → ℕ
 valueFrom n [] = n
 valueFrom n (d ∷ ds) = valueFrom (10 * n + (d - 48)) ds
 
--- "go", "hold", "split", "open"
-unfoldable pub wordOf : Verdict → List ℕ
+-- The verdict that each case of the enum means, and the paper's word for it: "go", "hold", "split", "open".
+unfoldable pub meant : Verdict → logic.Verdict
+meant Go = go
+meant Hold = hold
+meant Split = split
+meant Open = «open»
+
+unfoldable pub wordOf : logic.Verdict → List ℕ
 wordOf go = 103 ∷ 111 ∷ []
 wordOf hold = 104 ∷ 111 ∷ 108 ∷ 100 ∷ []
 wordOf split = 115 ∷ 112 ∷ 108 ∷ 105 ∷ 116 ∷ []

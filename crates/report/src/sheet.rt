@@ -6,7 +6,8 @@ ghost use Rattle.logic.specs.Reading.{taggedBy};
 ghost use Rattle.logic.specs.Verdict.{verdict};
 ghost use Rattle.table.specs.Refusals.{numberOf};
 ghost use Rattle.report.specs.Sheet.{atomLine, atomLines, countLine, spentLine, runSheet, refusedSheet, sheetOf, Printed};
-ghost use Rattle.report.specs.Printing.{Put, FitsRun, meant, marked};
+ghost use Rattle.report.specs.Printing.{Put, FitsRun, marked};
+ghost use Rattle.report.specs.Text.{meant};
 use crate::text::put;
 use crate::text::put_number;
 use crate::verdict::Verdict;
@@ -15,7 +16,9 @@ use crate::verdict::put_verdict;
 use crate::verdict::verdict_of;
 use engine::answer::Answer;
 use engine::answer::Counts;
+use engine::run::SCRATCH;
 use engine::run::run;
+use table::format::Literal;
 use table::format::Sizes;
 use table::format::read_sizes;
 use table::judge::Refusal;
@@ -47,15 +50,18 @@ fn put_atom(out: &mut [u8], at: usize, a: u16, v: Verdict) -> usize
     put(out, word, b"\n")
 }
 
+// By the literals that say that an atom holds.
 fn put_atoms(out: &mut [u8], from: usize, marks: &[u8], atoms: u16) -> usize
     requires { ⌜ (from ≤ 10) × (atoms ≤ 512) × (length (now out) ≡ 5041) × (length (now marks) ≡ 4096) ⌝ }
     ensures { λ r. ⌜ Put (now (out .entry)) from (atomLines (verdict (taggedBy 4 (marked (now (marks .entry))))) atoms) (now (out .exit)) r ⌝ }
 {
     let mut at = from;
-    let mut a: u16 = 0;
-    while a < atoms {
-        at = put_atom(out, at, a, verdict_of(marks, a as usize));
-        a += 1;
+    let mut q: u16 = 0;
+    while q < 2 * atoms {
+        let holds = Literal(q);
+        let v = verdict_of(marks, holds);
+        at = put_atom(out, at, holds.atom(), v);
+        q += 2;
     }
     at
 }
@@ -76,7 +82,7 @@ fn put_run(out: &mut [u8], atoms: u16, log: &[u16], c: Counts, most: u32) -> usi
     requires { ⌜ FitsRun atoms most (now log) c × (length (now out) ≡ 5041) ⌝ }
     ensures { λ r. ⌜ Put (now (out .entry)) 0 (runSheet atoms (take (c .lines) (now (log .entry))) (c .spent) most) (now (out .exit)) r ⌝ }
 {
-    let mut marks = [0u8; 4096];
+    let mut marks = [0u8; 8 * Sizes::MAX_ATOMS as usize];
     mark_lines(log, c.lines as usize, &mut marks);
     let count = put_count(out, 0, atoms);
     let last = put_atoms(out, count, &marks, atoms);
@@ -110,8 +116,8 @@ fn put_sheet(table: &[u8], out: &mut [u8]) -> usize
 {
     let s = read_sizes(table);
     let most = bound_of(s);
-    let mut log = [0u16; 2048];
-    let mut scratch = [0u16; 32768];
+    let mut log = [0u16; 4 * Sizes::MAX_ATOMS as usize];
+    let mut scratch = [0u16; SCRATCH];
     match run(table, most, &mut log, &mut scratch) {
         Answer::Refused(why) => put_refused(out, why),
         Answer::Stopped(c) => put_run(out, s.atoms, &log, c, most),

@@ -5,10 +5,12 @@ ghost use mathlib.Core.Bool.{cond};
 ghost use lib.ListN.{length, take};
 ghost use Rattle.logic.specs.Reading.{taggedBy};
 ghost use Rattle.logic.specs.Tests.{_and_};
+ghost use Rattle.logic.specs.Theory.{atom};
 ghost use Rattle.logic.specs.Verdict.{go, hold, split, «open», verdict};
-ghost use Rattle.report.specs.Text.{wordOf};
-ghost use Rattle.report.specs.Printing.{Put, Markable, Marked, meant, marked};
+ghost use Rattle.report.specs.Text.{meant, wordOf};
+ghost use Rattle.report.specs.Printing.{Put, Markable, Marked, marked};
 use crate::text::put;
+use table::format::Literal;
 use values::wide;
 
 pub enum Verdict {
@@ -31,11 +33,13 @@ pub fn mark_lines(log: &[u16], n: usize, marks: &mut [u8])
     }
 }
 
-fn has_line(marks: &[u8], x: usize) -> bool
-    requires { ⌜ x < length (now marks) ⌝ }
-    ensures { λ r. ⌜ r ≡ marked (now (marks .entry)) x ⌝ }
+// Whether a literal has a tag among the lines that are marked.
+fn has_line(marks: &[u8], q: Literal, tag: u16) -> bool
+    requires { ⌜ (4 * q .0 + tag < length (now marks)) × (q .0 < 1024) × (tag < 4) ⌝ }
+    ensures { λ r. ⌜ r ≡ taggedBy 4 (marked (now (marks .entry))) (q .0) tag ⌝ }
 {
-    marks[x] == 1
+    let x = 4 * q.0 + tag;
+    marks[x as usize] == 1
 }
 
 // The first that fits: +∂ of 2a, +∂ of 2a + 1, −∂ of both.
@@ -56,14 +60,16 @@ fn first_fit(proved: bool, opposed: bool, refuted: bool, unopposed: bool) -> Ver
     Verdict::Open
 }
 
-pub fn verdict_of(marks: &[u8], a: usize) -> Verdict
-    requires { ⌜ 8 * a + 8 ≤ length (now marks) ⌝ }
-    ensures { λ r. ⌜ meant r ≡ verdict (taggedBy 4 (marked (now (marks .entry)))) a ⌝ }
+// The verdict of an atom, by the literal that says that it holds.
+pub fn verdict_of(marks: &[u8], q: Literal) -> Verdict
+    requires { ⌜ (q .0 ≡ 2 * atom (q .0)) × (atom (q .0) < 512) × (length (now marks) ≡ 4096) ⌝ }
+    ensures { λ r. ⌜ meant r ≡ verdict (taggedBy 4 (marked (now (marks .entry)))) (atom (q .0)) ⌝ }
 {
-    let proved = has_line(marks, 8 * a + 2);
-    let opposed = has_line(marks, 8 * a + 6);
-    let refuted = has_line(marks, 8 * a + 3);
-    let unopposed = has_line(marks, 8 * a + 7);
+    let n = q.complement();
+    let proved = has_line(marks, q, 2);
+    let opposed = has_line(marks, n, 2);
+    let refuted = has_line(marks, q, 3);
+    let unopposed = has_line(marks, n, 3);
     first_fit(proved, opposed, refuted, unopposed)
 }
 

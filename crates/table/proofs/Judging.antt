@@ -2,14 +2,14 @@
 use Prim.Native.Nat.{ℕ, _+_, _*_, _≤_, _<_}
 use mathlib.Core.Path.{_≡_, refl, sym, _∙_, ap}
 use mathlib.Core.Bool.{Bool, true, false, cond}
-use mathlib.Core.List.{List, [], _∷_}
+use mathlib.Core.List.{List}
 use borrow.Author.Tests.{lt-ltb, le-ltb, eq-eqb, ne-eqb}
 use lib.Dec.{ltb}
-use lib.ListN.{length, getD}
+use lib.ListN.{length}
 use Rattle.logic.specs.Tests.{isnt}
 use Rattle.table.specs.declared.format.Sizes.{Sizes}
 use Rattle.table.specs.declared.judge.Refusal.{Refusal}
-use Rattle.table.specs.declared.judge.Refusal.the-variants.{Truncated, TooLarge, WrongLength, BadKind, OutOfRange, Unsorted, Cyclic, ShortScratch, ShortLog}
+use Rattle.table.specs.declared.judge.Refusal.the-variants.{Truncated, TooLarge, WrongLength, BadKind, OutOfRange, Unsorted, Cyclic}
 use Rattle.table.specs.declared.judge.Judgement.{Judgement}
 use Rattle.table.specs.declared.judge.Judgement.the-variants.{Accepted, Refused}
 use Rattle.table.specs.Format.{sizesOf, spanOf}
@@ -83,22 +83,3 @@ module _ (b : List ℕ) (s : Sizes) where
       → Accepted s ≡ judged b s
   unfolding judged
   judged-0 e f g h i j = simp (e, f, g, h, i, j)
-
--- a refusal is told by its number
-numbered : ℕ → Refusal
-numbered n = getD (Truncated ∷ Truncated ∷ TooLarge ∷ WrongLength ∷ BadKind ∷ OutOfRange ∷ Unsorted ∷ Cyclic ∷ ShortScratch ∷ ShortLog ∷ []) n Truncated
-
-numbered-back : (n : Refusal) → numbered (numberOf n) ≡ n
-unfolding numbered
-numbered-back Truncated = refl
-numbered-back TooLarge = refl
-numbered-back WrongLength = refl
-numbered-back BadKind = refl
-numbered-back OutOfRange = refl
-numbered-back Unsorted = refl
-numbered-back Cyclic = refl
-numbered-back ShortScratch = refl
-numbered-back ShortLog = refl
-
-pub one-number : (m n : Refusal) → numberOf m ≡ numberOf n → m ≡ n
-one-number m n e = sym (numbered-back m) ∙ ap numbered e ∙ numbered-back n

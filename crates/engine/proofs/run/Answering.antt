@@ -26,7 +26,7 @@ use Rattle.engine.specs.declared.answer.Answer.{Answer}
 use Rattle.engine.specs.declared.answer.Answer.the-variants.{Refused, Stopped}
 use Rattle.memory.specs.Layout.{tagCount}
 use Rattle.memory.specs.Api.{Prepared}
-use Rattle.engine.specs.Answers.{withBuffers, runOf, answerTo, logAfter, scratchAfter, Ran}
+use Rattle.engine.specs.Answers.{numbersOf, withBuffers, runOf, answerTo, logAfter, scratchAfter, Ran}
 use Rattle.engine.specs.Working.{Opened, Worked}
 use Rattle.engine.proofs.run.Trying.{drop-further, proper-in}
 use Rattle.memory.proofs.Views.{kept-none, kept-then}
@@ -72,31 +72,31 @@ module _ (b : List ℕ) (budget : ℕ) where
 
   -- refused: by the table, by the scratch, by the log
   module _ (log scratch : List ℕ) where
-    ran-refused : (n : Refusal) → withBuffers (judgementOf b) (length scratch) (length log) ≡ judgement.Refused n → Ran b budget log log scratch scratch (Refused n)
+    ran-refused : (n : Refusal) → withBuffers (judgementOf b) (length scratch) (length log) ≡ judgement.Refused n → Ran b budget log log scratch scratch (numbersOf (Refused n))
     unfolding answerTo logAfter scratchAfter
     ran-refused n e =
         record {
-          answer = sym (ap (λ j. answerTo j (runOf b budget)) e);
+          answer = sym (ap (λ j. numbersOf (answerTo j (runOf b budget))) e);
           written = sym (ap (λ j. logAfter j (runOf b budget) log) e);
           cleared = sym (ap (λ j. scratchAfter j scratch) e);
           demands = demands-of;
         }
 
     -- as it is answered
-    pub refused-as : {n : Refusal} {a : Answer} {log′ scratch′ : List ℕ} → Ran b budget log log scratch scratch (Refused n)
-        → (a ≡ Refused n) × (log′ ≡ log) × (scratch′ ≡ scratch) → Ran b budget log log′ scratch scratch′ a
-    refused-as r (e, f, g) = coe 1 0 (i. Ran b budget log (f i) scratch (g i) (e i)) r
+    pub refused-as : {n : Refusal} {a : Answer} {log′ scratch′ : List ℕ} → Ran b budget log log scratch scratch (numbersOf (Refused n))
+        → (a ≡ Refused n) × (log′ ≡ log) × (scratch′ ≡ scratch) → Ran b budget log log′ scratch scratch′ (numbersOf a)
+    refused-as r (e, f, g) = coe 1 0 (i. Ran b budget log (f i) scratch (g i) (numbersOf (e i))) r
 
-    pub refused-table : (n : Refusal) → judgementOf b ≡ judgement.Refused n → Ran b budget log log scratch scratch (Refused n)
+    pub refused-table : (n : Refusal) → judgementOf b ≡ judgement.Refused n → Ran b budget log log scratch scratch (numbersOf (Refused n))
     unfolding withBuffers
     refused-table n e = ran-refused n (ap (λ j. withBuffers j (length scratch) (length log)) e)
 
     module _ (s : Sizes) (e : judgementOf b ≡ judgement.Accepted s) where
-      pub refused-scratch : length scratch < 32768 → Ran b budget log log scratch scratch (Refused ShortScratch)
+      pub refused-scratch : length scratch < 32768 → Ran b budget log log scratch scratch (numbersOf (Refused ShortScratch))
       unfolding withBuffers
       refused-scratch h = ran-refused ShortScratch (ap (λ j. withBuffers j (length scratch) (length log)) e ∙ (simp (lt-ltb (length scratch) 32768 h)))
 
-      pub refused-log : 32768 ≤ length scratch → length log < tagCount * s .atoms → Ran b budget log log scratch scratch (Refused ShortLog)
+      pub refused-log : 32768 ≤ length scratch → length log < tagCount * s .atoms → Ran b budget log log scratch scratch (numbersOf (Refused ShortLog))
       unfolding withBuffers
       refused-log h k = ran-refused ShortLog
           (ap (λ j. withBuffers j (length scratch) (length log)) e ∙ (simp (le-ltb (length scratch) 32768 h, lt-ltb (length log) (tagCount * s .atoms) k)))
@@ -104,11 +104,11 @@ module _ (b : List ℕ) (budget : ℕ) where
       -- run, and the scratch cleared
       pub ran : 32768 ≤ length scratch → tagCount * s .atoms ≤ length log → (mem log′ scratch′ : List ℕ) (a : Answer)
           → Worked (run (plainSystem (theoryIn b s)) budget) scratch log mem log′ a → scratch′ ≡ replicate 32768 0 ++ drop 32768 mem
-          → Ran b budget log log′ scratch scratch′ a
+          → Ran b budget log log′ scratch scratch′ (numbersOf a)
       unfolding withBuffers answerTo logAfter scratchAfter
       ran h k mem log′ scratch′ a w f =
           record {
-            answer = w .answer ∙ ap (λ o. answerTo (judgement.Accepted s) o) same ∙ sym (ap (λ j. answerTo j (runOf b budget)) accepted);
+            answer = ap numbersOf (w .answer ∙ ap (λ o. answerTo (judgement.Accepted s) o) same ∙ sym (ap (λ j. answerTo j (runOf b budget)) accepted));
             written = w .written ∙ ap (λ o. logAfter (judgement.Accepted s) o log) same ∙ sym (ap (λ j. logAfter j (runOf b budget) log) accepted);
             cleared = f ∙ ap (λ (z : List ℕ). replicate 32768 0 ++ z) (w .kept .rest) ∙ sym (ap (λ j. scratchAfter j scratch) accepted);
             demands = demands-of;

@@ -6,11 +6,11 @@ use Rattle.engine.proofs.run.run.Statement.{statement}
 use Rattle.engine.proofs.run.run.Tie as tie
 
 run-accepted-requires : tie.Need-run-accepted-requires
-run-accepted-requires c κs = sym (c .before .before .before .before .before .judge .ensures) ∙ c .before .before .before .s .given .1
+run-accepted-requires c κs = sym (c .before .before .before .before .before .judge .ensures .judgement) ∙ c .before .before .before .s .given .1
 
 returns-2 : tie.Need-returns-2
 returns-2 c =
-    let n = c .before .before .before .before .before .before .before .before in refused-as _ _ _ _ (refused-table _ _ _ _ _ (sym (n .before .before .judge .ensures) ∙ n .n .given .1)) (c .before .before .before .before .refuse .ensures)
+    let n = c .before .before .before .before .before .before .before .before in refused-as _ _ _ _ (refused-table _ _ _ _ _ (sym (n .before .before .judge .ensures .judgement) ∙ n .n .given .1)) (c .before .before .before .before .refuse .ensures)
 
 pub run-spec : {M : Type 1} → statement M
 run-spec =

@@ -1,9 +1,8 @@
 -- `report::sheet::put_atom` meets its contract. Assumes nothing.
 use native.Mathlib.Omega.{arith}
 use mathlib.Core.List.{_++_}
-use Rattle.report.specs.Text.{decimal, space, wordOf, newline}
+use Rattle.report.specs.Text.{meant, decimal, space, wordOf, newline}
 use Rattle.report.specs.Sheet.{atomLine}
-use Rattle.report.specs.Printing.{meant}
 use Rattle.report.proofs.Lengths.{atom-parts}
 use Rattle.report.proofs.Puts.{room-left, put-put}
 use borrow.Author.Needs.{needs}

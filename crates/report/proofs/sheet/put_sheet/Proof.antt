@@ -14,7 +14,7 @@ put-run-requires c κs =
     let at-read-sizes = at-bound-of .before in
     let start = at-read-sizes .before .before .before in (
       stopped-fits (at-read-sizes .read-sizes .result .atoms) (at-bound-of .bound-of .result) (at-run .run .last .1 .1 .0) (at-run .run .result) _ (at-c .c .given .1)
-          (ran-fits (at-run .run .ensures) (length-replicate {A = ℕ} 2048 0) (length-replicate {A = ℕ} 32768 0) (at-read-sizes .read-sizes .result) (at-read-sizes .read-sizes .ensures) (at-bound-of .bound-of .ensures)),
+          (ran-fits (at-run .run .result) (at-run .run .ensures) (length-replicate {A = ℕ} 2048 0) (length-replicate {A = ℕ} 32768 0) (at-read-sizes .read-sizes .result) (at-read-sizes .read-sizes .ensures) (at-bound-of .bound-of .ensures)),
       (start .pre),
     )
 
@@ -24,7 +24,7 @@ put-run-requires-2 c κs =
     let at-read-sizes = at-bound-of .before in
     let start = at-read-sizes .before .before .before in (
       finished-fits (at-read-sizes .read-sizes .result .atoms) (at-bound-of .bound-of .result) (at-run .run .last .1 .1 .0) (at-run .run .result) _ (at-c2 .c2 .given .1)
-          (ran-fits (at-run .run .ensures) (length-replicate {A = ℕ} 2048 0) (length-replicate {A = ℕ} 32768 0) (at-read-sizes .read-sizes .result) (at-read-sizes .read-sizes .ensures) (at-bound-of .bound-of .ensures)),
+          (ran-fits (at-run .run .result) (at-run .run .ensures) (length-replicate {A = ℕ} 2048 0) (length-replicate {A = ℕ} 32768 0) (at-read-sizes .read-sizes .result) (at-read-sizes .read-sizes .ensures) (at-bound-of .bound-of .ensures)),
       (start .pre),
     )
 
@@ -33,7 +33,7 @@ returns c =
     let at-put-refused = c .before .before in let at-why = at-put-refused .before .before .before in let at-run = at-why .before .before .before .before in
     let at-bound-of = at-run .before .before .before in let at-read-sizes = at-bound-of .before in let start = at-read-sizes .before .before .before in
     subst (λ z. Put (start .args .out .now) 0 z (at-put-refused .put-refused .last .0) (at-put-refused .put-refused .result))
-    (refused-text (at-read-sizes .read-sizes .result .atoms) (at-bound-of .bound-of .result) (at-run .run .last .1 .1 .0) (at-run .run .result) _ (at-why .why .given .1) ∙ ran-sheet (at-run .run .ensures) (length-replicate {A = ℕ} 2048 0) (length-replicate {A = ℕ} 32768 0) (at-read-sizes .read-sizes .result) (at-read-sizes .read-sizes .ensures) (at-bound-of .bound-of .ensures))
+    (refused-text (at-read-sizes .read-sizes .result .atoms) (at-bound-of .bound-of .result) (at-run .run .last .1 .1 .0) (at-run .run .result) _ (at-why .why .given .1) ∙ ran-sheet (at-run .run .result) (at-run .run .ensures) (length-replicate {A = ℕ} 2048 0) (length-replicate {A = ℕ} 32768 0) (at-read-sizes .read-sizes .result) (at-read-sizes .read-sizes .ensures) (at-bound-of .bound-of .ensures))
     (at-put-refused .put-refused .ensures)
 
 returns-2 : tie.Need-returns-2
@@ -41,7 +41,7 @@ returns-2 c =
     let at-put-run = c .before .before in let at-c = at-put-run .before .before .before .before in let at-run = at-c .before .before .before .before in
     let at-bound-of = at-run .before .before .before in let at-read-sizes = at-bound-of .before in let start = at-read-sizes .before .before .before in
     subst (λ z. Put (start .args .out .now) 0 z (at-put-run .put-run .last .0) (at-put-run .put-run .result))
-    (stopped-text (at-read-sizes .read-sizes .result .atoms) (at-bound-of .bound-of .result) (at-run .run .last .1 .1 .0) (at-run .run .result) _ (at-c .c .given .1) ∙ ran-sheet (at-run .run .ensures) (length-replicate {A = ℕ} 2048 0) (length-replicate {A = ℕ} 32768 0) (at-read-sizes .read-sizes .result) (at-read-sizes .read-sizes .ensures) (at-bound-of .bound-of .ensures))
+    (stopped-text (at-read-sizes .read-sizes .result .atoms) (at-bound-of .bound-of .result) (at-run .run .last .1 .1 .0) (at-run .run .result) _ (at-c .c .given .1) ∙ ran-sheet (at-run .run .result) (at-run .run .ensures) (length-replicate {A = ℕ} 2048 0) (length-replicate {A = ℕ} 32768 0) (at-read-sizes .read-sizes .result) (at-read-sizes .read-sizes .ensures) (at-bound-of .bound-of .ensures))
     (at-put-run .put-run .ensures)
 
 returns-3 : tie.Need-returns-3
@@ -49,7 +49,7 @@ returns-3 c =
     let at-put-run2 = c .before .before in let at-c2 = at-put-run2 .before .before .before .before in let at-run = at-c2 .before .before .before .before in
     let at-bound-of = at-run .before .before .before in let at-read-sizes = at-bound-of .before in let start = at-read-sizes .before .before .before in
     subst (λ z. Put (start .args .out .now) 0 z (at-put-run2 .put-run2 .last .0) (at-put-run2 .put-run2 .result))
-    (finished-text (at-read-sizes .read-sizes .result .atoms) (at-bound-of .bound-of .result) (at-run .run .last .1 .1 .0) (at-run .run .result) _ (at-c2 .c2 .given .1) ∙ ran-sheet (at-run .run .ensures) (length-replicate {A = ℕ} 2048 0) (length-replicate {A = ℕ} 32768 0) (at-read-sizes .read-sizes .result) (at-read-sizes .read-sizes .ensures) (at-bound-of .bound-of .ensures))
+    (finished-text (at-read-sizes .read-sizes .result .atoms) (at-bound-of .bound-of .result) (at-run .run .last .1 .1 .0) (at-run .run .result) _ (at-c2 .c2 .given .1) ∙ ran-sheet (at-run .run .result) (at-run .run .ensures) (length-replicate {A = ℕ} 2048 0) (length-replicate {A = ℕ} 32768 0) (at-read-sizes .read-sizes .result) (at-read-sizes .read-sizes .ensures) (at-bound-of .bound-of .ensures))
     (at-put-run2 .put-run2 .ensures)
 
 pub put-sheet-spec : {M : Type 1} → statement M

@@ -1,6 +1,6 @@
 -- `report::verdict::first_fit` meets its contract. Assumes nothing.
 use Rattle.logic.specs.Tests.{_and_}
-use Rattle.report.specs.Printing.{meant}
+use Rattle.report.specs.Text.{meant}
 use Rattle.report.proofs.verdict.first_fit.Statement.{statement}
 use Rattle.report.proofs.verdict.first_fit.Tie as tie
 use Rattle.report.proofs.verdict.first_fit.Reads as reads

@@ -4,8 +4,6 @@ use Rattle.report.specs.Printing.{marked}
 use borrow.Author.Needs.{needs}
 use Rattle.report.proofs.verdict.has_line.Statement.{statement}
 use Rattle.report.proofs.verdict.has_line.Tie as tie
-use Rattle.report.proofs.verdict.has_line.Reads as reads
-use Rattle.report.proofs.verdict.has_line.Lts as lts
 
 returns : tie.Need-returns
 unfolding marked
@@ -15,4 +13,4 @@ pub has-line-spec : {M : Type 1} → statement M
 has-line-spec =
     tie.close
     (tie.spec
-    (λ c. search needs) returns)
+    (λ c. search needs) (λ c. search needs) (λ c. search needs) (λ c. search needs) returns)

@@ -2,8 +2,8 @@
 use Prim.Native.Nat.{_+_, _≤_}
 use mathlib.Core.Path.{sym, subst}
 use lib.ListN.{length}
-use Rattle.report.specs.Text.{wordOf}
-use Rattle.report.specs.Printing.{Put, meant}
+use Rattle.report.specs.Text.{meant, wordOf}
+use Rattle.report.specs.Printing.{Put}
 use Rattle.report.proofs.Words.{is-go, is-hold, is-split, is-open}
 use borrow.Author.Needs.{needs}
 use Rattle.report.proofs.verdict.put_verdict.Statement.{statement}
