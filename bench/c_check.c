@@ -1,4 +1,6 @@
-/* c_check base.bin: each C engine on every vector and on hand-made refusals: answer, numbers, every word of log and scratch. */
+/* c_check base.bin: each C engine on every vector, on its table with buffers that are too short, on tables made by hand and on rings of
+ * pairs. Each run is compared in the five numbers of the answer, the table, and every word of log and scratch; for one that differs a
+ * line says what differs first, what came and what was wanted. */
 #include "c_engine.h"
 #include "c_flags.h"
 
@@ -11,182 +13,350 @@ enum { SPARE = 7, LOG_WORDS = FLY_LOG + SPARE, SCRATCH_WORDS = FLY_SCRATCH + SPA
 typedef fly_answer engine(const uint8_t *table, size_t table_len, uint32_t budget, uint16_t *log, size_t log_len, uint16_t *scratch,
                           size_t scratch_len);
 
-static engine *run; /* the one under check */
-static uint16_t log_before[LOG_WORDS], scratch_before[SCRATCH_WORDS];
+static struct {
+    const char *name;
+    engine *run;
+} under; /* the engine under check */
 
-static void noise(uint16_t *words, size_t n, uint32_t *seed)
+/* A run and what it must give. The lines are those of the log, as many as the answer has. */
+typedef struct {
+    const uint8_t *table;
+    size_t len;
+    uint32_t budget;
+    size_t log_len, scratch_len;
+    fly_answer want;
+    const uint16_t *lines;
+} trial;
+
+typedef struct {
+    size_t all, same;
+} tally;
+
+/* ---- one run ---- */
+
+#define NUMBER SIZE_MAX /* the place of what is no part of an array */
+
+/* What differs first, and its place there; what is NULL if nothing does. */
+typedef struct {
+    const char *what;
+    size_t place;
+    uint32_t came, wanted;
+} difference;
+
+static void compare(difference *d, const char *what, size_t place, uint32_t came, uint32_t wanted)
 {
+    if (d->what == NULL && came != wanted)
+        *d = (difference){what, place, came, wanted};
+}
+
+static void compare_numbers(difference *d, fly_answer came, fly_answer wanted)
+{
+    compare(d, "refused", NUMBER, came.refused, wanted.refused);
+    compare(d, "finished", NUMBER, came.finished, wanted.finished);
+    compare(d, "lines", NUMBER, came.lines, wanted.lines);
+    compare(d, "worked", NUMBER, came.worked, wanted.worked);
+    compare(d, "spent", NUMBER, came.spent, wanted.spent);
+}
+
+/* The noise goes on from run to run, so that a buffer never holds what it held before. */
+static void noise(uint16_t *words, size_t n)
+{
+    static uint32_t seed = 1;
     for (size_t i = 0; i < n; i++) {
-        *seed = *seed * 1664525u + 1013904223u;
-        words[i] = (uint16_t)(*seed >> 16);
+        seed = seed * 1664525u + 1013904223u;
+        words[i] = (uint16_t)(seed >> 16);
     }
 }
 
-/* Runs a table in buffers of just these lengths, the table at an odd address, over noise; whether all is as wanted. */
-static int same(const uint8_t *table, size_t len, uint32_t budget, size_t log_len, size_t scratch_len, fly_answer want,
-                const uint16_t *lines, uint32_t seed)
+/* Runs the engine in buffers of just the trial's lengths, over noise, with the table at an odd address. */
+static difference tried(const trial *t)
 {
-    uint8_t *room = malloc(len + 1), *t = room + 1;
-    uint16_t *log = malloc(2 * log_len + 1), *scratch = malloc(2 * scratch_len + 1);
-    memcpy(t, table, len);
-    noise(log_before, log_len, &seed);
-    noise(scratch_before, scratch_len, &seed);
-    memcpy(log, log_before, 2 * log_len);
-    memcpy(scratch, scratch_before, 2 * scratch_len);
-    fly_answer got = run(t, len, budget, log, log_len, scratch, scratch_len);
-    int ok = got.refused == want.refused && got.finished == want.finished && got.lines == want.lines && got.worked == want.worked &&
-             got.spent == want.spent && memcmp(t, table, len) == 0;
-    for (size_t i = 0; ok && i < log_len; i++)
-        ok = log[i] == (i < want.lines ? lines[i] : log_before[i]);
-    for (size_t i = 0; ok && i < scratch_len; i++)
-        ok = scratch[i] == (want.refused == 0 && i < FLY_SCRATCH ? 0 : scratch_before[i]);
+    static uint16_t log_before[LOG_WORDS], scratch_before[SCRATCH_WORDS];
+    uint8_t *room = malloc(t->len + 1), *table = room + 1;
+    uint16_t *log = malloc(2 * t->log_len + 1), *scratch = malloc(2 * t->scratch_len + 1);
+    memcpy(table, t->table, t->len);
+    noise(log_before, t->log_len);
+    noise(scratch_before, t->scratch_len);
+    memcpy(log, log_before, 2 * t->log_len);
+    memcpy(scratch, scratch_before, 2 * t->scratch_len);
+    difference d = {NULL, 0, 0, 0};
+    compare_numbers(&d, under.run(table, t->len, t->budget, log, t->log_len, scratch, t->scratch_len), t->want);
+    for (size_t i = 0; i < t->len; i++)
+        compare(&d, "table byte", i, table[i], t->table[i]);
+    for (size_t i = 0; i < t->log_len; i++)
+        compare(&d, "log word", i, log[i], i < t->want.lines ? t->lines[i] : log_before[i]);
+    size_t zeros = t->want.refused ? 0 : FLY_SCRATCH;
+    for (size_t i = 0; i < t->scratch_len; i++)
+        compare(&d, "scratch word", i, scratch[i], i < zeros ? 0 : scratch_before[i]);
     free(scratch);
     free(log);
     free(room);
-    return ok;
+    return d;
 }
 
-static size_t u16(const uint8_t **at)
+/* Whether the engine gives what it must. */
+static int is_same(const char *name, const trial *t)
 {
-    size_t w = (*at)[0] | (size_t)(*at)[1] << 8;
-    *at += 2;
-    return w;
+    difference d = tried(t);
+    if (d.what == NULL)
+        return 1;
+    printf("%s: %s (budget %u, log %zu, scratch %zu): %s", under.name, name, (unsigned)t->budget, t->log_len, t->scratch_len, d.what);
+    if (d.place != NUMBER)
+        printf(" %zu", d.place);
+    printf(" came %u wanted %u\n", (unsigned)d.came, (unsigned)d.wanted);
+    return 0;
 }
 
-static uint32_t u32(const uint8_t **at)
+/* The same with buffers of these lengths. */
+static int is_same_in(const char *name, trial t, size_t log_len, size_t scratch_len)
 {
-    uint32_t low = (uint32_t)u16(at);
-    return low | (uint32_t)u16(at) << 16;
+    t.log_len = log_len;
+    t.scratch_len = scratch_len;
+    return is_same(name, &t);
 }
 
-/* A hand-made table: n words after the five sizes, cut or lengthened to len bytes (0: as it is), and the refusal it must meet. */
+static void count(tally *of, int same)
+{
+    of->all++;
+    of->same += same ? 1 : 0;
+}
+
+/* Prints a tally; whether all were the same, and there were some. */
+static int all_same(const char *what, tally of)
+{
+    printf("%s: %s %zu same %zu\n", under.name, what, of.all, of.same);
+    return of.all > 0 && of.all == of.same;
+}
+
+/* ---- the vectors ---- */
+
 typedef struct {
+    const uint8_t *at, *end;
+    size_t record;
+} reader;
+
+static void give_up(const reader *r, const char *why)
+{
+    fprintf(stderr, "c_check: vector %zu: %s\n", r->record, why);
+    exit(2);
+}
+
+static const uint8_t *bytes(reader *r, size_t n)
+{
+    if ((size_t)(r->end - r->at) < n)
+        give_up(r, "the file ends within it");
+    r->at += n;
+    return r->at - n;
+}
+
+static uint16_t u16(reader *r)
+{
+    const uint8_t *low = bytes(r, 2);
+    return (uint16_t)(low[0] | low[1] << 8);
+}
+
+static uint32_t u32(reader *r)
+{
+    uint32_t low = u16(r);
+    return low | (uint32_t)u16(r) << 16;
+}
+
+/* Reads a record but for the lengths of the buffers; 0 at the mark that ends the file. */
+static int next(reader *r, trial *t)
+{
+    static uint16_t lines[FLY_LOG];
+    t->len = u16(r);
+    if (t->len == 0xFFFF)
+        return 0;
+    t->table = bytes(r, t->len);
+    t->budget = u32(r);
+    uint32_t answer = u16(r);
+    t->want.refused = answer == 255 ? 0 : answer;
+    t->want.finished = answer == 0;
+    t->want.lines = u16(r);
+    t->want.worked = u16(r);
+    t->want.spent = u32(r);
+    if (t->want.lines > FLY_LOG)
+        give_up(r, "more lines than a log has");
+    for (size_t i = 0; i < t->want.lines; i++)
+        lines[i] = u16(r);
+    t->lines = lines;
+    return 1;
+}
+
+/* The words of log that a table needs: four for each atom. */
+static size_t log_needed(const trial *t)
+{
+    size_t need = t->len < 2 ? 0 : 4 * (t->table[0] | (size_t)t->table[1] << 8);
+    return need < FLY_LOG ? need : FLY_LOG;
+}
+
+/* Refusals 8 and 9 come after 1 to 7, and in this order. */
+static void try_short_buffers(tally *shorts, const char *name, const trial *vector)
+{
+    size_t need = log_needed(vector);
+    trial t = *vector;
+    uint32_t judged = vector->want.refused;
+    t.want = (fly_answer){judged ? judged : 8, 0, 0, 0, 0};
+    count(shorts, is_same_in(name, t, need, FLY_SCRATCH - 1));
+    count(shorts, is_same_in(name, t, 0, 0));
+    if (need == 0)
+        return;
+    t.want.refused = judged ? judged : 9;
+    count(shorts, is_same_in(name, t, need - 1, SCRATCH_WORDS));
+}
+
+static int check_vectors(const uint8_t *file, size_t size)
+{
+    reader r = {file, file + size, 0};
+    tally vectors = {0, 0}, shorts = {0, 0};
+    for (trial t; next(&r, &t); r.record++) {
+        char name[32];
+        snprintf(name, sizeof name, "vector %zu", r.record);
+        size_t need = log_needed(&t);
+        count(&vectors, is_same_in(name, t, need, FLY_SCRATCH) && is_same_in(name, t, need + SPARE, SCRATCH_WORDS));
+        try_short_buffers(&shorts, name, &t);
+    }
+    if (r.at != r.end)
+        give_up(&r, "the mark that ends the file, and bytes past it");
+    int same = all_same("vectors", vectors);
+    return all_same("short buffers", shorts) && same;
+}
+
+/* ---- tables made by hand ---- */
+
+/* The five sizes and n words after them, cut or lengthened to len bytes (0: as it is), and the refusal that it must meet. */
+typedef struct {
+    const char *name;
     size_t n, len;
     uint16_t words[16];
     uint32_t refused;
 } made;
 
 static const made refusals[] = {
-    {0, 9, {0, 0, 0, 0, 0}, 1},
-    {0, 9, {0x101, 0x101, 0x101, 0x101, 0x101}, 1},
-    {0, 9, {513, 0, 0, 0, 0}, 1},
-    {0, 0, {513, 0, 0, 0, 0}, 2},
-    {0, 0, {0, 1025, 0, 0, 0}, 2},
-    {0, 0, {0, 0, 1025, 0, 0}, 2},
-    {0, 0, {0, 0, 0, 4097, 0}, 2},
-    {0, 0, {0, 0, 0, 0, 2049}, 2},
-    {0, 0, {65535, 65535, 65535, 65535, 65535}, 2},
-    {0, 0, {1, 1, 0, 0, 0}, 3},
-    {0, 11, {1, 0, 0, 0, 0}, 3},
-    {1, 0, {1, 1, 0, 0, 0, 0}, 3},
-    {3, 0, {1, 1, 0, 0, 0, 0, 0, 0}, 3},
-    {2, 0, {1, 1, 0, 0, 0, 1, 0}, 4},                      /* a fact's left 1 */
-    {2, 0, {1, 0, 1, 0, 0, 3, 0}, 4},                      /* a kind 3 */
-    {4, 0, {1, 1, 1, 0, 0, 0, 3, 2, 0}, 4},                /* a stranger and a kind after it */
-    {2, 0, {0, 1, 0, 0, 0, 0, 0}, 5},                      /* no atoms, a fact */
-    {2, 0, {0, 1, 0, 0, 0, 1, 0}, 4},                      /* the same, left 1 */
-    {2, 0, {1, 1, 0, 0, 0, 0, 2}, 5},
-    {2, 0, {1, 0, 1, 0, 0, 0, 2}, 5},
-    {4, 0, {1, 0, 1, 1, 0, 0, 1, 0, 0}, 5},                /* an entry of rule 1 of 1 */
-    {4, 0, {1, 0, 1, 1, 0, 0, 0, 0, 2}, 5},                /* a strange antecedent */
-    {4, 0, {1, 0, 1, 0, 1, 0, 1, 0, 0}, 5},                /* a strange stronger rule */
-    {4, 0, {1, 0, 1, 0, 1, 0, 0, 0, 1}, 5},                /* a strange weaker rule */
-    {6, 0, {1, 2, 1, 0, 0, 0, 0, 0, 1, 0, 2}, 5},          /* disorder, and a stranger after it */
-    {4, 0, {1, 2, 0, 0, 0, 0, 0, 1, 0}, 6},                /* facts fall */
-    {4, 0, {1, 2, 0, 0, 0, 0, 0, 1, 1}, 6},                /* a fact twice */
-    {6, 0, {1, 0, 1, 2, 0, 0, 0, 0, 0, 1, 1}, 6},          /* an antecedent twice */
-    {8, 0, {1, 0, 2, 2, 0, 0, 0, 1, 0, 0, 0, 0, 0}, 6},    /* entries fall by rule */
-    {8, 0, {1, 0, 2, 0, 2, 0, 0, 1, 0, 0, 0, 0, 1}, 6},    /* pairs fall, in a circle */
-    {8, 0, {1, 0, 2, 0, 2, 0, 0, 0, 0, 0, 0, 1, 1}, 6},    /* a pair twice */
-    {8, 0, {1, 0, 2, 0, 2, 0, 0, 0, 1, 0, 0, 1, 0}, 7},    /* two rules each over the other */
-    {4, 0, {1, 0, 1, 0, 1, 0, 0, 0, 0}, 7},                /* a rule over itself */
+    {"nine bytes, all 0", 0, 9, {0, 0, 0, 0, 0}, 1},
+    {"nine bytes, all 1", 0, 9, {0x101, 0x101, 0x101, 0x101, 0x101}, 1},
+    {"nine bytes, 513 atoms", 0, 9, {513, 0, 0, 0, 0}, 1},
+    {"513 atoms", 0, 0, {513, 0, 0, 0, 0}, 2},
+    {"1,025 facts", 0, 0, {0, 1025, 0, 0, 0}, 2},
+    {"1,025 rules", 0, 0, {0, 0, 1025, 0, 0}, 2},
+    {"4,097 entries", 0, 0, {0, 0, 0, 4097, 0}, 2},
+    {"2,049 pairs", 0, 0, {0, 0, 0, 0, 2049}, 2},
+    {"every size 65,535", 0, 0, {65535, 65535, 65535, 65535, 65535}, 2},
+    {"a fact that is not there", 0, 0, {1, 1, 0, 0, 0}, 3},
+    {"a byte past the sizes", 0, 11, {1, 0, 0, 0, 0}, 3},
+    {"a fact without its right", 1, 0, {1, 1, 0, 0, 0, 0}, 3},
+    {"a word past a fact", 3, 0, {1, 1, 0, 0, 0, 0, 0, 0}, 3},
+    {"a fact with left 1", 2, 0, {1, 1, 0, 0, 0, 1, 0}, 4},
+    {"a rule of kind 3", 2, 0, {1, 0, 1, 0, 0, 3, 0}, 4},
+    {"a strange fact, and a rule of kind 3 after it", 4, 0, {1, 1, 1, 0, 0, 0, 3, 2, 0}, 4},
+    {"a fact without an atom", 2, 0, {0, 1, 0, 0, 0, 0, 0}, 5},
+    {"a fact without an atom, with left 1", 2, 0, {0, 1, 0, 0, 0, 1, 0}, 4},
+    {"a strange fact", 2, 0, {1, 1, 0, 0, 0, 0, 2}, 5},
+    {"a strange head", 2, 0, {1, 0, 1, 0, 0, 0, 2}, 5},
+    {"an entry of rule 1 of 1", 4, 0, {1, 0, 1, 1, 0, 0, 1, 0, 0}, 5},
+    {"a strange antecedent", 4, 0, {1, 0, 1, 1, 0, 0, 0, 0, 2}, 5},
+    {"a strange stronger rule", 4, 0, {1, 0, 1, 0, 1, 0, 1, 0, 0}, 5},
+    {"a strange weaker rule", 4, 0, {1, 0, 1, 0, 1, 0, 0, 0, 1}, 5},
+    {"facts that fall, and a strange head after them", 6, 0, {1, 2, 1, 0, 0, 0, 0, 0, 1, 0, 2}, 5},
+    {"facts that fall", 4, 0, {1, 2, 0, 0, 0, 0, 0, 1, 0}, 6},
+    {"a fact twice", 4, 0, {1, 2, 0, 0, 0, 0, 0, 1, 1}, 6},
+    {"an antecedent twice", 6, 0, {1, 0, 1, 2, 0, 0, 0, 0, 0, 1, 1}, 6},
+    {"entries that fall by rule", 8, 0, {1, 0, 2, 2, 0, 0, 0, 1, 0, 0, 0, 0, 0}, 6},
+    {"pairs that fall, in a circle", 8, 0, {1, 0, 2, 0, 2, 0, 0, 1, 0, 0, 0, 0, 1}, 6},
+    {"a pair twice", 8, 0, {1, 0, 2, 0, 2, 0, 0, 0, 0, 0, 0, 1, 1}, 6},
+    {"two rules each over the other", 8, 0, {1, 0, 2, 0, 2, 0, 0, 0, 1, 0, 0, 1, 0}, 7},
+    {"a rule over itself", 4, 0, {1, 0, 1, 0, 1, 0, 0, 0, 0}, 7},
 };
 
-/* N rules in one ring of pairs, its rule 0 last (ring 1) or the ring left open (0). */
+static void put(uint8_t *out, const uint16_t *words, size_t n)
+{
+    for (size_t i = 0; i < n; i++) {
+        out[2 * i] = (uint8_t)words[i];
+        out[2 * i + 1] = (uint8_t)(words[i] >> 8);
+    }
+}
+
+static int check_made(void)
+{
+    tally all = {0, 0};
+    for (size_t i = 0; i < sizeof refusals / sizeof *refusals; i++) {
+        const made *m = &refusals[i];
+        uint8_t table[sizeof m->words];
+        put(table, m->words, sizeof m->words / sizeof *m->words);
+        trial t = {table, m->len ? m->len : 10 + 2 * m->n, 1000, 0, 0, {m->refused, 0, 0, 0, 0}, NULL};
+        int same = is_same_in(m->name, t, LOG_WORDS, SCRATCH_WORDS);
+        t.budget = 0;
+        count(&all, is_same_in(m->name, t, 0, 0) && same);
+    }
+    return all_same("made by hand", all);
+}
+
+/* ---- rings ---- */
+
+enum { RING_RULES = 1024, RING_WORDS = 5 + 4 * RING_RULES };
+
+/* A table of n rules, each over the one that is `step` after it, or all but the one before rule 0; returns its length. */
 static size_t ring(uint8_t *out, unsigned n, unsigned step, int closed)
 {
-    uint16_t w[5 + 4 * 1024] = {1, 0, (uint16_t)n, 0, (uint16_t)(closed ? n : n - 1)}, *left = w + 5;
+    uint16_t w[RING_WORDS] = {1, 0, (uint16_t)n, 0, (uint16_t)(closed ? n : n - 1)};
     size_t t = 2 * n - !closed, k = n;
-    for (unsigned r = 0; r < n; r++)
-        left[r] = 1, left[t + r] = (uint16_t)(r % 2);
-    for (unsigned r = 0; r < n; r++)
-        if (closed || (r + step) % n != 0)
-            left[k] = (uint16_t)r, left[t + k] = (uint16_t)((r + step) % n), k++;
-    for (size_t i = 0; i < 5 + 2 * t; i++)
-        out[2 * i] = (uint8_t)w[i], out[2 * i + 1] = (uint8_t)(w[i] >> 8);
+    uint16_t *left = w + 5, *right = left + t;
+    for (unsigned r = 0; r < n; r++) {
+        unsigned weaker = (r + step) % n;
+        left[r] = 1;
+        right[r] = (uint16_t)(r % 2);
+        if (!closed && weaker == 0)
+            continue;
+        left[k] = (uint16_t)r;
+        right[k++] = (uint16_t)weaker;
+    }
+    put(out, w, 5 + 2 * t);
     return 10 + 4 * t;
 }
 
-/* Checks the engine on the vectors of a file of this size; prints what it found; whether all is as wanted. */
-static int check(const char *name, engine *under, const uint8_t *file, size_t size)
+/* A closed ring is a circle; an open one is accepted, and a budget of 0 stops it. */
+static void try_ring(tally *all, unsigned n, unsigned step, int closed)
 {
-    static uint8_t table[33000];
-    size_t vectors = 0, good = 0, shorts = 0, shorts_good = 0, hand = 0, hand_good = 0;
-    run = under;
-    const uint8_t *at = file;
-    for (size_t len; len = u16(&at), len != 0xFFFF; vectors++) {
-        static uint16_t lines[FLY_LOG];
-        const uint8_t *t = at;
-        at += len;
-        uint32_t budget = u32(&at);
-        size_t answer = u16(&at);
-        fly_answer want = {0, 0, 0, 0, 0};
-        want.lines = (uint32_t)u16(&at), want.worked = (uint32_t)u16(&at), want.spent = u32(&at);
-        want.finished = answer == 0, want.refused = answer == 255 ? 0 : (uint32_t)answer;
-        for (size_t i = 0; i < want.lines; i++)
-            lines[i] = (uint16_t)u16(&at);
-        if ((size_t)(at - file) > size)
-            fprintf(stderr, "c_check: the vectors end early\n"), exit(2);
-        size_t need = len < 2 ? 0 : 4 * ((size_t)t[0] | (size_t)t[1] << 8);
-        if (need > FLY_LOG)
-            need = FLY_LOG;
-        int ok = same(t, len, budget, need, FLY_SCRATCH, want, lines, 1);
-        ok &= same(t, len, budget, need + SPARE, SCRATCH_WORDS, want, lines, 2);
-        good += (size_t)ok;
-        if (!ok)
-            printf("%s: vector %zu differs\n", name, vectors);
-        /* short buffers: 8 and 9, after 1 to 7 and in this order */
-        uint32_t judged = want.refused;
-        fly_answer short_8 = {judged ? judged : 8, 0, 0, 0, 0}, short_9 = {judged ? judged : 9, 0, 0, 0, 0};
-        shorts += 2, shorts_good += (size_t)same(t, len, budget, need, FLY_SCRATCH - 1, short_8, lines, 3);
-        shorts_good += (size_t)same(t, len, budget, 0, 0, short_8, lines, 4);
-        if (need > 0)
-            shorts++, shorts_good += (size_t)same(t, len, budget, need - 1, SCRATCH_WORDS, short_9, lines, 5);
-    }
-    for (size_t i = 0; i < sizeof refusals / sizeof *refusals; i++) {
-        const made *m = &refusals[i];
-        size_t len = m->len ? m->len : 10 + 2 * m->n;
-        for (size_t k = 0; k < 2 * (sizeof m->words / sizeof *m->words); k++)
-            table[k] = (uint8_t)(m->words[k / 2] >> 8 * (k % 2));
-        fly_answer want = {m->refused, 0, 0, 0, 0};
-        int ok = same(table, len, 1000, LOG_WORDS, SCRATCH_WORDS, want, NULL, 6) && same(table, len, 0, 0, 0, want, NULL, 7);
-        hand++, hand_good += (size_t)ok;
-        if (!ok)
-            printf("%s: hand-made table %zu differs\n", name, i);
-    }
-    for (unsigned n = 2; n <= 1024; n = n < 8 ? n + 1 : 2 * n) {
-        for (unsigned step = 1; step < 6; step += 2) { /* a ring of all n rules when step and n have no common divisor */
-            if (n % step == 0 && step > 1)
+    static uint8_t table[2 * RING_WORDS];
+    char name[64];
+    snprintf(name, sizeof name, "%s ring of %u rules by steps of %u", closed ? "closed" : "open", n, step);
+    trial t = {table, ring(table, n, step, closed), closed ? 9999 : 0, LOG_WORDS, SCRATCH_WORDS, {closed ? 7 : 0, 0, 0, 0, 0}, NULL};
+    count(all, is_same(name, &t));
+}
+
+static int check_rings(void)
+{
+    tally all = {0, 0};
+    for (unsigned n = 2; n <= RING_RULES; n = n < 8 ? n + 1 : 2 * n) {
+        for (unsigned step = 1; step < 6; step += 2) {
+            if (step > 1 && n % step == 0) /* several rings */
                 continue;
-            static uint16_t lines[4];
-            fly_answer closed = {7, 0, 0, 0, 0}, open = {0, 0, 0, 0, 0}; /* a budget of 0: stopped, scratch cleared */
-            hand += 2, hand_good += (size_t)same(table, ring(table, n, step, 1), 9999, LOG_WORDS, SCRATCH_WORDS, closed, lines, 8);
-            hand_good += (size_t)same(table, ring(table, n, step, 0), 0, LOG_WORDS, SCRATCH_WORDS, open, lines, 9);
+            try_ring(&all, n, step, 1);
+            try_ring(&all, n, step, 0);
         }
     }
-    printf("%s: short buffers %zu same %zu\n", name, shorts, shorts_good);
-    printf("%s: hand-made %zu same %zu\n", name, hand, hand_good);
-    printf("%s: vectors %zu same %zu\n", name, vectors, good);
-    return good == vectors && shorts == shorts_good && hand == hand_good;
+    return all_same("rings", all);
+}
+
+/* Whether the engine gives what it must everywhere. */
+static int check(const char *name, engine *run, const uint8_t *file, size_t size)
+{
+    under.name = name;
+    under.run = run;
+    int vectors = check_vectors(file, size), by_hand = check_made(), rings = check_rings();
+    return vectors && by_hand && rings;
 }
 
 int main(int argc, char **argv)
 {
     static uint8_t file[1 << 20];
-    FILE *in = argc == 2 ? fopen(argv[1], "rb") : NULL;
-    size_t size = in ? fread(file, 1, sizeof file, in) : 0;
-    if (size < 2)
-        return fprintf(stderr, "c_check: no vectors\n"), 2;
+    if (argc != 2)
+        return fputs("usage: c_check base.bin\n", stderr), 2;
+    FILE *in = fopen(argv[1], "rb");
+    if (in == NULL)
+        return perror(argv[1]), 2;
+    size_t size = fread(file, 1, sizeof file, in);
     fclose(in);
     int ok = check("c_engine", c_run, file, size);
     ok &= check("c_flags", flags_run, file, size);

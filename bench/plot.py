@@ -1,5 +1,5 @@
 #!/usr/bin/env python3
-"""plot.py: lines `SHAPE K SPENT OURS C FLAGS` on standard input; instructions against what is spent, as SVG on standard output.
+"""plot.py: lines `SHAPE SPENT OURS C FLAGS` on standard input; instructions against what is spent, as SVG on standard output.
 Both axes are logarithmic, so that a cost proportional to what is spent is a line along the grey diagonals."""
 import math, sys
 
@@ -9,7 +9,7 @@ COLOURS = {'chain': '#1b6ca8', 'star': '#c0392b', 'teams': '#2e8b57', 'random': 
 
 points = {}
 for row in sys.stdin:
-    shape, _, *numbers = row.split()
+    shape, *numbers = row.split()
     points.setdefault(shape, []).append(tuple(map(int, numbers)))
 for shape in points:
     points[shape].sort()

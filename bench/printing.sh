@@ -1,12 +1,17 @@
 #!/bin/sh
-# printing.sh SHEET RUN: instructions of the program `sheet` beside those of `run_once` on the same tables; the difference is printing.
-here=$(dirname "$0"); tmp=$(mktemp -d)
-export GLIBC_TUNABLES=glibc.cpu.x86_rep_stosb_threshold=1000000000
-count() { valgrind --tool=callgrind --callgrind-out-file="$tmp/out" "$1" < "$tmp/t" 2>"$tmp/err" >"$tmp/said"; sed -n 's/^summary: //p; s/^totals: //p' "$tmp/out" | head -1; }
+# printing.sh ARCHIVE: instructions of fly_sheet beside those of fly_run to its finish on the same tables, and what the sheet takes more
+# for each atom, less what it takes more without atoms.
+. "$(dirname "$0")/count.sh"
+echo "| shape | size | atoms | fly_run | fly_sheet | more | for each atom |"
+echo "|---|---|---|---|---|---|---|"
+measure() { # SHAPE K
+  table "$1" "$2"; run=$(count fly_run $finish); sheet=$(count fly_sheet); atoms=$(sed -n 's/^atoms //p' "$tmp/fly_sheet")
+}
+measure empty 1; besides=$((sheet - run))
+row empty "" "$atoms" "$run" "$sheet" $besides ""
 for shape in chain random; do
   for k in 1 2 4 8; do
-    python3 "$here/running.py" $shape $k > "$tmp/t"; run=$(count "$2"); sheet=$(count "$1"); atoms=$(sed -n 's/^atoms //p' "$tmp/said")
-    echo "$shape 1/$k: $atoms atoms, run $run, sheet $sheet, $(((sheet - run) / atoms)) for each atom"
+    measure $shape $k
+    row $shape "$(part $k)" "$atoms" "$run" "$sheet" $((sheet - run)) "$(over $((sheet - run - besides)) "$atoms" 0)"
   done
 done
-rm -r "$tmp"

@@ -1,10 +1,16 @@
 #!/usr/bin/env python3
 """Writes each example: NAME.table, the file that `./sheet-of` takes, and NAME.txt, what its atoms and rules mean.
+With --check it writes nothing, and fails unless these files are what it would write: for each other one a line says what differs first
+(a byte of a table, a line of a text, counted from 0), what came and what was wanted.
 
 A literal is written as an atom's number, or its complement as ~n: 3 says that atom 3 holds, ~3 that it does not.
 A rule is (kind, body, head). A pair (t, s) says that rule t is over rule s. NAME.sheet is what ./sheet-of prints.
 """
+import itertools
 import os
+import sys
+
+HERE = os.path.dirname(os.path.abspath(__file__))
 
 STRICT, DEFEASIBLE, DEFEATER = range(3)
 KINDS = ["strict", "defeasible", "defeater"]
@@ -97,10 +103,50 @@ def text(title, atoms, facts, rules, pairs, why):
     return "\n".join(lines + ["", why, ""])
 
 
-if __name__ == "__main__":
-    here = os.path.dirname(os.path.abspath(__file__))
+def files():
+    """The name and the content of each file."""
     for name, (title, atoms, facts, rules, pairs, why) in EXAMPLES.items():
-        with open(os.path.join(here, name + ".table"), "wb") as f:
-            f.write(b"".join(w.to_bytes(2, "little") for w in words(atoms, facts, rules, pairs)))
-        with open(os.path.join(here, name + ".txt"), "w") as f:
-            f.write(text(title, atoms, facts, rules, pairs, why))
+        yield name + ".table", b"".join(w.to_bytes(2, "little") for w in words(atoms, facts, rules, pairs))
+        yield name + ".txt", text(title, atoms, facts, rules, pairs, why).encode()
+
+
+def write(name, content):
+    with open(os.path.join(HERE, name), "wb") as f:
+        f.write(content)
+
+
+def difference(name, came, wanted):
+    """What differs first: a byte of a table, a line of a text."""
+    unit = "byte"
+    if name.endswith(".txt"):
+        unit, came, wanted = "line", came.splitlines(True), wanted.splitlines(True)
+    for i, (one, other) in enumerate(itertools.zip_longest(came, wanted)):
+        if one != other:
+            return "%s %d came %s wanted %s" % (unit, i, one, other)
+    return None
+
+
+def is_written(name, content):
+    """Whether the file is there with this content."""
+    path = os.path.join(HERE, name)
+    if not os.path.exists(path):
+        print("examples/%s is not there" % name)
+        return False
+    with open(path, "rb") as f:
+        what = difference(name, f.read(), content)
+    if what:
+        print("examples/%s is not what write.py writes: %s" % (name, what))
+    return what is None
+
+
+def main():
+    if sys.argv[1:] == ["--check"]:
+        sys.exit(not all([is_written(*file) for file in files()]))
+    if sys.argv[1:]:
+        sys.exit(__doc__)
+    for file in files():
+        write(*file)
+
+
+if __name__ == "__main__":
+    main()

@@ -1,10 +1,33 @@
-/* The rule engine in a console written in C: link target/staticlib/libconsole.a (rt staticlib console).
+/* The rule engine in a console written in C. This header is its manual; words in capitals are defined below.
  *
- * For every call: a length is a count of elements, not of bytes, except where the elements are bytes. A buffer may hold anything
- * before the call. No pointer may be NULL, and buffers may not overlap each other or the table. The functions keep no state between
- * calls, allocate nothing and call nothing of the C library but memory copies and fills; any number of threads may call them, each
- * with its own buffers. The table is only read. No function of the public crates (table, engine, report, console) requires anything
- * besides that of its caller: what is wrong with a table or a buffer's length is answered by a number. */
+ * To build: `rt staticlib console` proves the engine and writes the archive. A program that calls it is built by, for example,
+ *
+ *     gcc -std=c11 -O2 -Iinclude examples/console/loop.c target/staticlib/libconsole.a -o target/loop
+ *
+ * The table. A file of at most FLY_MAX_BYTES bytes (docs/FORMAT.md): five 16-bit little-endian sizes, A atoms, F facts, N rules,
+ * B antecedent entries and P pairs, and two arrays of F+N+B+P words. The first word, table[0] + 256 * table[1], is A. A caller that
+ * reads a file into a buffer gives it FLY_MAX_BYTES + 1 bytes, so that a file that is too long is refused and not cut.
+ *
+ * A line. The number 4q + tag: tag FLY_TAG(line) of literal FLY_LITERAL(line). Literal 2a says that atom a holds, literal 2a + 1 that it
+ * does not: FLY_ATOM(line) is a, and FLY_OPPOSITE(line) is 1 where the line is about "it does not hold". The tags are in fly_tag.
+ *
+ * Buffers. Each may hold anything before a call. The scratch has FLY_SCRATCH words, for every table. The log has FLY_LOG words, for
+ * every table, or 4A, for a table of A atoms. A sheet's buffer has FLY_SHEET bytes. Longer ones serve as well; words and bytes past
+ * what is used are left alone. A length is a count of elements: of words for log and scratch, of bytes for a table.
+ *
+ * What a caller owes. Pointers are not NULL, even where a length is 0; each buffer has the length that is passed; buffers overlap neither
+ * each other nor the table. Nothing else: what is wrong with a table or with a length is answered by a number (fly_refusal).
+ *
+ * Threads and stack. The functions keep no state between calls, allocate nothing, and call nothing of the C library but memcpy and
+ * memset. Any number of threads may call them, each with its own buffers; a table is only read and may be shared. A call takes at most
+ * FLY_RUN_STACK or FLY_SHEET_STACK bytes of stack.
+ *
+ * The budget. A run spends at most its budget, and takes time in proportion to what it spends (docs/PERFORMANCE.md), after judging the
+ * table, which takes time in proportion to the table. With a budget below A+F+N+B+P nothing is written. 5A+F+N+3B+3P finishes, and
+ * so does FLY_MAX_SPENT for every table. Two runs of a table under different budgets: the lines of the smaller one are the
+ * first lines of the larger one, in the same order. But a run does not go on where an earlier one stopped: each call judges the table
+ * and works from the start, so a run under a growing budget costs the sum of its calls. Raise the budget by doubling it
+ * (examples/console/loop.c), not by a small step; and where one call has time for b units, no number of calls gets past b. */
 #ifndef FLYRULES_H
 #define FLYRULES_H
 
@@ -15,15 +38,50 @@
 extern "C" {
 #endif
 
-#define FLY_SCRATCH 32768 /* words of scratch that a run needs */
-#define FLY_LOG 2048      /* words of log that hold every table's lines; 4A words suffice for a table of A atoms */
-#define FLY_SHEET 5041    /* bytes of the longest sheet */
+/* the limits of a table: sizes, and bytes, 10 + 4(F+N+B+P) */
+#define FLY_MAX_ATOMS 512
+#define FLY_MAX_FACTS 1024
+#define FLY_MAX_RULES 1024
+#define FLY_MAX_ENTRIES 4096
+#define FLY_MAX_PAIRS 2048
+#define FLY_MAX_BYTES 32778
+
+#define FLY_SCRATCH 32768   /* words of scratch */
+#define FLY_LOG 2048        /* words of log, 4 for each of FLY_MAX_ATOMS */
+#define FLY_SHEET 5041      /* bytes of the longest sheet */
+#define FLY_MAX_SPENT 23040 /* the most that a run of any table can spend */
 
 /* bytes of stack, measured and rounded up (tests/console/promises.c) */
 #define FLY_RUN_STACK 8192
 #define FLY_SHEET_STACK 98304
 
-/* refused: 0, or the number of the refusal; then the other four are 0 and log and scratch are as they were. Else finished is 1 if
+/* a line, taken apart */
+#define FLY_LITERAL(line) ((line) / 4u)
+#define FLY_TAG(line) ((line) % 4u)
+#define FLY_ATOM(line) ((line) / 8u)
+#define FLY_OPPOSITE(line) ((line) / 4u % 2u)
+
+enum fly_tag {
+    FLY_DEFINITELY = 0,     /* +Δ: it is a fact, or strict rules draw it from facts */
+    FLY_NOT_DEFINITELY = 1, /* −Δ: shown not to be so drawn */
+    FLY_DEFEASIBLY = 2,     /* +∂: it holds, as the rules stand */
+    FLY_NOT_DEFEASIBLY = 3  /* −∂: shown to have no such proof */
+};
+
+/* Why a call is refused. The lowest number that applies is given. */
+enum fly_refusal {
+    FLY_TRUNCATED = 1,     /* the table has fewer than 10 bytes */
+    FLY_TOO_LARGE = 2,     /* one of its five sizes is above its limit */
+    FLY_WRONG_LENGTH = 3,  /* it does not have 10 + 4(F+N+B+P) bytes */
+    FLY_BAD_KIND = 4,      /* a fact's left word is not 0, or a rule's kind is above 2 */
+    FLY_OUT_OF_RANGE = 5,  /* a literal is not below 2A, or a rule number not below N */
+    FLY_UNSORTED = 6,      /* facts, entries or pairs do not rise strictly */
+    FLY_CYCLIC = 7,        /* the pairs lead from some rule back to itself */
+    FLY_SHORT_SCRATCH = 8, /* the scratch has fewer than FLY_SCRATCH words */
+    FLY_SHORT_LOG = 9      /* the log has fewer than 4A words */
+};
+
+/* refused: 0, or the number of the refusal; then the other four are 0, and log and scratch are as they were. Else finished is 1 if
  * every line was worked, 0 if the budget stopped the run; lines were written to the log, worked of them were worked, and spent is
  * what that cost. */
 typedef struct {
@@ -31,12 +89,12 @@ typedef struct {
 } fly_answer;
 
 /* Runs a table under a budget. After an accepted call the log's first `lines` words are the lines, the words past them are as they
- * were, the scratch's first FLY_SCRATCH words are 0 and the words past them are as they were. A call with a larger budget writes the
- * same lines and goes on from there. A budget of five times A+F+N+B+P finishes. */
+ * were, the scratch's first FLY_SCRATCH words are 0 and the words past them are as they were. */
 fly_answer fly_run(const uint8_t *table, size_t table_len, uint32_t budget, uint16_t *log, size_t log_len, uint16_t *scratch,
                    size_t scratch_len);
 
-/* Prints the sheet of a table: returns its number of bytes; the rest of out is 0. Log and scratch of its run are on the stack. */
+/* Prints the sheet of a table, as README says: returns its number of bytes; the rest of out is 0. A table that is refused has a sheet
+ * too: the line `refused` and its number. Log and scratch of its run are on the stack. */
 uint32_t fly_sheet(const uint8_t *table, size_t table_len, uint8_t out[FLY_SHEET]);
 
 #ifdef __cplusplus

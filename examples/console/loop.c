@@ -1,14 +1,18 @@
-/* A console's loop: each cycle has time for only so much, so it runs the table under a budget that grows from cycle to cycle. A larger
- * budget writes the same lines and goes on from there, so what was shown stays true. Usage: loop TABLE [STEP] */
+/* A console that shows what is concluded while the budget grows. Usage: loop TABLE
+ *
+ * What is shown stays true: a larger budget writes the same lines, and more after them. But each call judges the table and works from
+ * the start, so the calls cost the sum of what they spend. Hence the first budget is Size = A+F+N+B+P, below which nothing is
+ * written, and each is twice the one before: five times Size finishes, so there are at most four calls, and they spend at most 12
+ * times Size in all. With a step that is 1/k of what the finished run spends, k calls would spend (k+1)/2 times as much as it. */
 #include "flyrules.h"
 
 #include <stdio.h>
 #include <stdlib.h>
 #include <string.h>
 
-static const char *const TAGS[4] = {"+Δ", "−Δ", "+∂", "−∂"}; /* definitely or defeasibly, proved or refuted */
+static const char *const TAGS[4] = {"+Δ", "−Δ", "+∂", "−∂"}; /* by enum fly_tag */
 
-static uint8_t table[32779]; /* one byte more than the longest table has */
+static uint8_t table[FLY_MAX_BYTES + 1]; /* a byte more, so that a file that is too long is refused */
 static uint16_t lines[FLY_LOG], earlier[FLY_LOG], scratch[FLY_SCRATCH];
 static uint8_t sheet[FLY_SHEET];
 
@@ -23,27 +27,30 @@ static size_t load(const char *name) {
     return n;
 }
 
-/* Shows the lines that are new in this cycle. Those shown before must be the same. */
+/* A+F+N+B+P, the first five words; 1 at least, so that doubling it leads somewhere. */
+static uint32_t size_of_table(void) {
+    uint32_t size = 0;
+    for (int i = 0; i < 5; i++) size += (uint32_t)(table[2 * i] + 256 * table[2 * i + 1]);
+    return size > 0 ? size : 1;
+}
+
+/* Shows the lines that are new in this call. Those shown before must be the same. */
 static void show(uint32_t from, uint32_t to) {
     if (memcmp(lines, earlier, from * sizeof *lines) != 0) abort();
     memcpy(earlier, lines, to * sizeof *lines);
-    for (uint32_t i = from; i < to; i++) {
-        unsigned q = lines[i] / 4u;
-        printf("  %s %s%u\n", TAGS[lines[i] % 4u], q % 2u ? "not " : "", q / 2u);
-    }
+    for (uint32_t i = from; i < to; i++)
+        printf("  %s %s%u\n", TAGS[FLY_TAG(lines[i])], FLY_OPPOSITE(lines[i]) ? "not " : "", FLY_ATOM(lines[i]));
 }
 
 int main(int count, char **words) {
-    if (count < 2) {
-        fprintf(stderr, "usage: loop TABLE [STEP]\n");
+    if (count != 2) {
+        fprintf(stderr, "usage: loop TABLE\n");
         return 2;
     }
     size_t n = load(words[1]);
-    uint32_t step = count > 2 ? (uint32_t)strtoul(words[2], NULL, 10) : 4;
-    if (step == 0) step = 1;
     uint32_t shown = 0;
     fly_answer a = {0, 0, 0, 0, 0};
-    for (uint32_t budget = step; !a.refused && !a.finished; budget += step) {
+    for (uint32_t budget = size_of_table(); !a.refused && !a.finished; budget *= 2) {
         a = fly_run(table, n, budget, lines, FLY_LOG, scratch, FLY_SCRATCH);
         if (a.refused) break;
         printf("budget %u: %u lines, %u worked, %u spent%s\n", budget, a.lines, a.worked, a.spent, a.finished ? ", finished" : "");

@@ -204,4 +204,5 @@ def main():
                 sys.exit(f'{name} is not what write.py writes')
 
 
-main()
+if __name__ == '__main__':
+    main()

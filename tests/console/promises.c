@@ -1,18 +1,84 @@
-/* Case 1 and the promises of include/flyrules.h, each checked; any that fails ends the program with status 1. */
-#define _POSIX_C_SOURCE 200809L
+/* The promises of include/flyrules.h, on case 1 and on a table with every size at its limit. The first that is not kept ends the
+ * program with status 1 and a line that says which call it was, what differs, what came and what was wanted. */
+#define _DEFAULT_SOURCE
 #include "flyrules.h"
 
 #include <pthread.h>
 #include <stdio.h>
 #include <stdlib.h>
 #include <string.h>
+#include <sys/mman.h>
 
 enum { MORE = 5 }; /* words past what a run needs */
 
-static const uint8_t CASE_1[30] = {2, 0, 1, 0, 2, 0, 1, 0, 1, 0, 0, 0, 1, 0, 1, 0, 0, 0, 0, 0, 0, 0, 2, 0, 3, 0, 0, 0, 1, 0};
+/* A table, the lines that a run to its finish writes, and its sheet. */
+typedef struct {
+    const char *name;
+    const uint8_t *bytes;
+    size_t n;
+    const uint16_t *lines;
+    const char *sheet;
+} table;
+
+static const uint8_t BYTES_1[30] = {2, 0, 1, 0, 2, 0, 1, 0, 1, 0, 0, 0, 1, 0, 1, 0, 0, 0, 0, 0, 0, 0, 2, 0, 3, 0, 0, 0, 1, 0};
 static const uint16_t LOG_1[8] = {0, 5, 9, 13, 2, 7, 10, 15};
-static const char SHEET_1[] = "atoms 2\n0 go\n1 go\nspent 17 of 19\n";
-static const uint8_t CIRCLE[18] = {1, 0, 0, 0, 1, 0, 0, 0, 1, 0, 1, 0, 0, 0, 0, 0, 0, 0};
+static const uint8_t CIRCLE_BYTES[18] = {1, 0, 0, 0, 1, 0, 0, 0, 1, 0, 1, 0, 0, 0, 0, 0, 0, 0};
+
+static const table CASE_1 = {"case 1", BYTES_1, sizeof BYTES_1, LOG_1, "atoms 2\n0 go\n1 go\nspent 17 of 19\n"};
+static const table NOTHING = {"no bytes", BYTES_1, 0, NULL, "refused 1\n"};
+static const table STUB = {"nine bytes of case 1", BYTES_1, 9, NULL, "refused 1\n"};
+static const table SHORT = {"case 1 but for a byte", BYTES_1, 29, NULL, "refused 3\n"};
+static const table CIRCLE = {"a circle", CIRCLE_BYTES, sizeof CIRCLE_BYTES, NULL, "refused 7\n"};
+
+/* ---- the table at its limits, which tests/cases/write.py has too ---- */
+
+enum {
+    ATOMS = FLY_MAX_ATOMS,
+    FACTS = FLY_MAX_FACTS,
+    RULES = FLY_MAX_RULES,
+    ENTRIES = FLY_MAX_ENTRIES,
+    PAIRS = FLY_MAX_PAIRS,
+    PLACES = FACTS + RULES + ENTRIES + PAIRS
+};
+
+static uint8_t limits_bytes[FLY_MAX_BYTES];
+static uint16_t limits_log[FLY_LOG];
+static char limits_sheet[FLY_SHEET + 1];
+static const table LIMITS = {"every size at its limit", limits_bytes, sizeof limits_bytes, limits_log, limits_sheet};
+
+static void put_word(size_t i, size_t word) {
+    limits_bytes[2 * i] = (uint8_t)word;
+    limits_bytes[2 * i + 1] = (uint8_t)(word >> 8);
+}
+
+static void put_place(size_t i, size_t left, size_t right) {
+    put_word(5 + i, left);
+    put_word(5 + PLACES + i, right);
+}
+
+static void make_bytes(void) {
+    static const size_t SIZES[5] = {ATOMS, FACTS, RULES, ENTRIES, PAIRS};
+    size_t i = 0;
+    for (size_t k = 0; k < 5; k++) put_word(k, SIZES[k]);
+    for (size_t k = 0; k < FACTS; k++) put_place(i++, 0, k);
+    for (size_t k = 0; k < RULES; k++) put_place(i++, k % 3, k % 8);
+    for (size_t k = 0; k < ENTRIES; k++) put_place(i++, k / 8, k % 8);
+    for (size_t k = 0; k < PAIRS; k++) put_place(i++, k / 4, k / 4 + 1 + k % 4);
+}
+
+/* Every literal is a fact: the opening writes +Δ of each, and working that line writes +∂. */
+static void make_log_and_sheet(void) {
+    char *end = limits_sheet;
+    for (size_t q = 0; q < FACTS; q++) {
+        limits_log[q] = (uint16_t)(4 * q);
+        limits_log[FACTS + q] = (uint16_t)(4 * q + 2);
+    }
+    end += sprintf(end, "atoms %d\n", ATOMS);
+    for (int a = 0; a < ATOMS; a++) end += sprintf(end, "%d go\n", a);
+    sprintf(end, "spent 20302 of 23040\n");
+}
+
+/* ---- one call ---- */
 
 #define CHECK(what)                                                                                                                  \
     do {                                                                                                                             \
@@ -22,65 +88,106 @@ static const uint8_t CIRCLE[18] = {1, 0, 0, 0, 1, 0, 0, 0, 1, 0, 1, 0, 0, 0, 0, 
         }                                                                                                                            \
     } while (0)
 
+#define NUMBER SIZE_MAX /* the place of what is no part of an array */
+
+static void same(const char *call, const char *what, size_t place, size_t came, size_t wanted) {
+    if (came == wanted) return;
+    fprintf(stderr, "promises: %s: %s", call, what);
+    if (place != NUMBER) fprintf(stderr, " %zu", place);
+    fprintf(stderr, " came %zu wanted %zu\n", came, wanted);
+    exit(1);
+}
+
 static uint16_t noise(size_t i) { return (uint16_t)(i * 28111u + 40503u); }
 
-/* Buffers of exactly the lengths lent, so that a sanitizer sees a step outside. */
+enum { PAGE = 4096 };
+
+static size_t whole_pages(size_t bytes) { return (bytes + PAGE - 1) / PAGE * PAGE; }
+
+/* Bytes that end where a page begins that nobody may touch: a step past their end stops the program. */
+static void *guarded(size_t bytes) {
+    size_t n = whole_pages(bytes);
+    uint8_t *at = mmap(NULL, n + PAGE, PROT_READ | PROT_WRITE, MAP_PRIVATE | MAP_ANONYMOUS, -1, 0);
+    CHECK(at != MAP_FAILED && mprotect(at + n, PAGE, PROT_NONE) == 0);
+    return at + n - bytes;
+}
+
+static void give_back(void *at, size_t bytes) {
+    size_t n = whole_pages(bytes);
+    CHECK(munmap((uint8_t *)at + bytes - n, n + PAGE) == 0);
+}
+
 typedef struct {
     size_t log_len, scratch_len;
     uint16_t *log, *scratch;
 } buffers;
 
 static buffers lend(size_t log_len, size_t scratch_len) {
-    buffers b = {log_len, scratch_len, malloc(2 * log_len + 1), malloc(2 * scratch_len + 1)};
-    CHECK(b.log != NULL && b.scratch != NULL);
+    buffers b = {log_len, scratch_len, guarded(2 * log_len), guarded(2 * scratch_len)};
     for (size_t i = 0; i < log_len; i++) b.log[i] = noise(i);
     for (size_t i = 0; i < scratch_len; i++) b.scratch[i] = noise(i + 7);
     return b;
 }
 
 /* The log's first words are these and the rest the noise; the scratch's first `zeros` words are 0 and the rest the noise. */
-static void left(buffers b, const uint16_t *lines, size_t n, size_t zeros) {
-    for (size_t i = 0; i < b.log_len; i++) CHECK(b.log[i] == (i < n ? lines[i] : noise(i)));
-    for (size_t i = 0; i < b.scratch_len; i++) CHECK(b.scratch[i] == (i < zeros ? 0 : noise(i + 7)));
-    free(b.log);
-    free(b.scratch);
+static void left(const char *call, buffers b, const uint16_t *lines, size_t n, size_t zeros) {
+    for (size_t i = 0; i < b.log_len; i++) same(call, "log word", i, b.log[i], i < n ? lines[i] : noise(i));
+    for (size_t i = 0; i < b.scratch_len; i++) same(call, "scratch word", i, b.scratch[i], i < zeros ? 0 : noise(i + 7));
+    give_back(b.log, 2 * b.log_len);
+    give_back(b.scratch, 2 * b.scratch_len);
 }
 
-static void runs(uint32_t budget, size_t log_len, size_t scratch_len, fly_answer want) {
-    uint8_t *table = malloc(sizeof CASE_1);
-    CHECK(table != NULL);
-    memcpy(table, CASE_1, sizeof CASE_1);
+/* The table in a buffer of its own. */
+static uint8_t *lend_table(const table *t) {
+    uint8_t *bytes = guarded(t->n);
+    memcpy(bytes, t->bytes, t->n);
+    return bytes;
+}
+
+static void table_left(const char *call, uint8_t *bytes, const table *t) {
+    for (size_t i = 0; i < t->n; i++) same(call, "table byte", i, bytes[i], t->bytes[i]);
+    give_back(bytes, t->n);
+}
+
+static void runs(const table *t, uint32_t budget, size_t log_len, size_t scratch_len, fly_answer want) {
+    char call[128];
+    snprintf(call, sizeof call, "%s (budget %u, log %zu, scratch %zu)", t->name, (unsigned)budget, log_len, scratch_len);
+    uint8_t *bytes = lend_table(t);
     buffers b = lend(log_len, scratch_len);
-    fly_answer a = fly_run(table, sizeof CASE_1, budget, b.log, log_len, b.scratch, scratch_len);
-    CHECK(a.refused == want.refused && a.finished == want.finished);
-    CHECK(a.lines == want.lines && a.worked == want.worked && a.spent == want.spent);
-    left(b, LOG_1, want.lines, want.refused ? 0 : FLY_SCRATCH);
-    CHECK(memcmp(table, CASE_1, sizeof CASE_1) == 0);
-    free(table);
+    fly_answer a = fly_run(bytes, t->n, budget, b.log, log_len, b.scratch, scratch_len);
+    same(call, "refused", NUMBER, a.refused, want.refused);
+    same(call, "finished", NUMBER, a.finished, want.finished);
+    same(call, "lines", NUMBER, a.lines, want.lines);
+    same(call, "worked", NUMBER, a.worked, want.worked);
+    same(call, "spent", NUMBER, a.spent, want.spent);
+    left(call, b, t->lines, want.lines, want.refused ? 0 : FLY_SCRATCH);
+    table_left(call, bytes, t);
 }
 
-static void refuses(const uint8_t *table, size_t n, uint32_t number) {
-    buffers b = lend(FLY_LOG, FLY_SCRATCH + MORE);
-    fly_answer a = fly_run(table, n, 19, b.log, b.log_len, b.scratch, b.scratch_len);
-    CHECK(a.refused == number && a.finished == 0 && a.lines == 0 && a.worked == 0 && a.spent == 0);
-    left(b, LOG_1, 0, 0);
+static void refuses(const table *t, uint32_t number) {
+    runs(t, 19, FLY_LOG, FLY_SCRATCH + MORE, (fly_answer){number, 0, 0, 0, 0});
 }
 
-static void prints(const uint8_t *table, size_t n, const char *text) {
-    uint8_t *out = malloc(FLY_SHEET);
-    CHECK(out != NULL);
+static void prints(const table *t) {
+    char call[128];
+    snprintf(call, sizeof call, "the sheet of %s", t->name);
+    uint8_t *bytes = lend_table(t), *out = guarded(FLY_SHEET);
+    size_t length = strlen(t->sheet);
     memset(out, 0xA5, FLY_SHEET);
-    uint32_t length = fly_sheet(table, n, out);
-    CHECK(length == strlen(text) && memcmp(out, text, length) == 0);
-    for (size_t i = length; i < FLY_SHEET; i++) CHECK(out[i] == 0);
-    free(out);
+    uint32_t came = fly_sheet(bytes, t->n, out);
+    for (size_t i = 0; i < FLY_SHEET; i++) same(call, "byte", i, out[i], i < length ? (uint8_t)t->sheet[i] : 0);
+    same(call, "length", NUMBER, came, length);
+    give_back(out, FLY_SHEET);
+    table_left(call, bytes, t);
 }
+
+/* ---- threads ---- */
 
 static void *again(void *unused) {
     for (int i = 0; i < 200; i++) {
-        runs(19, 8, FLY_SCRATCH, (fly_answer){0, 1, 8, 8, 17});
-        runs(13, 9, FLY_SCRATCH + MORE, (fly_answer){0, 0, 6, 4, 11});
-        prints(CASE_1, sizeof CASE_1, SHEET_1);
+        runs(&CASE_1, 19, 8, FLY_SCRATCH, (fly_answer){0, 1, 8, 8, 17});
+        runs(&CASE_1, 13, 9, FLY_SCRATCH + MORE, (fly_answer){0, 0, 6, 4, 11});
+        prints(&CASE_1);
     }
     return unused;
 }
@@ -92,60 +199,86 @@ static void together(void) {
     for (int i = 0; i < 4; i++) CHECK(pthread_join(threads[i], NULL) == 0);
 }
 
+/* ---- the stack ---- */
+
 #ifndef __SANITIZE_ADDRESS__
 enum { STACK = 1 << 20 };
-static uint16_t stack_log[FLY_LOG], stack_scratch[FLY_SCRATCH];
-static uint8_t stack_out[FLY_SHEET];
-static int which_call;
 
-static void *one_call(void *unused) {
-    if (which_call == 1) fly_run(CASE_1, sizeof CASE_1, 19, stack_log, FLY_LOG, stack_scratch, FLY_SCRATCH);
-    if (which_call == 2) fly_sheet(CASE_1, sizeof CASE_1, stack_out);
-    return unused;
+static void *no_call(void *of) { return of; }
+
+static void *run_call(void *of) {
+    static uint16_t log[FLY_LOG], scratch[FLY_SCRATCH];
+    const table *t = of;
+    fly_run(t->bytes, t->n, UINT32_MAX, log, FLY_LOG, scratch, FLY_SCRATCH);
+    return of;
 }
 
-/* The bytes of a painted stack that a thread changed which makes one call, or none. */
-static size_t painted(int which) {
+static void *sheet_call(void *of) {
+    static uint8_t out[FLY_SHEET];
+    const table *t = of;
+    fly_sheet(t->bytes, t->n, out);
+    return of;
+}
+
+/* The bytes of a painted stack that a thread changed which makes this call. */
+static size_t painted(void *call(void *), table of) {
     uint8_t *stack;
     pthread_attr_t attributes;
     pthread_t thread;
     size_t i = 0;
     CHECK(posix_memalign((void **)&stack, 4096, STACK) == 0);
     memset(stack, 0xA5, STACK);
-    which_call = which;
     CHECK(pthread_attr_init(&attributes) == 0 && pthread_attr_setstack(&attributes, stack, STACK) == 0);
-    CHECK(pthread_create(&thread, &attributes, one_call, NULL) == 0 && pthread_join(thread, NULL) == 0);
+    CHECK(pthread_create(&thread, &attributes, call, &of) == 0 && pthread_join(thread, NULL) == 0);
     while (i < STACK && stack[i] == 0xA5) i++;
     free(stack);
     return STACK - i;
 }
 
+/* What a call takes on either table, the larger of the two; neither may take more than was promised. */
+static size_t stack_of(const char *what, void *call(void *), size_t promised) {
+    const table *const tables[] = {&CASE_1, &LIMITS};
+    size_t most = 0;
+    for (size_t i = 0; i < 2; i++) {
+        size_t bytes = painted(call, *tables[i]) - painted(no_call, *tables[i]);
+        if (bytes > promised) {
+            fprintf(stderr, "promises: %s of %s: %zu bytes of stack, promised %zu\n", what, tables[i]->name, bytes, promised);
+            exit(1);
+        }
+        if (bytes > most) most = bytes;
+    }
+    return most;
+}
+
 static void stack_use(void) {
-    size_t none = painted(0), run = painted(1) - none, sheet = painted(2) - none;
+    size_t run = stack_of("the run", run_call, FLY_RUN_STACK), sheet = stack_of("the sheet", sheet_call, FLY_SHEET_STACK);
     printf("stack: run %zu bytes, sheet %zu bytes\n", run, sheet);
-    CHECK(run <= FLY_RUN_STACK && sheet <= FLY_SHEET_STACK);
 }
 #else
 static void stack_use(void) {}
 #endif
 
 int main(void) {
-    runs(19, FLY_LOG, FLY_SCRATCH + MORE, (fly_answer){0, 1, 8, 8, 17});
-    runs(17, 8, FLY_SCRATCH, (fly_answer){0, 1, 8, 8, 17});
-    runs(16, 8, FLY_SCRATCH, (fly_answer){0, 0, 8, 7, 16});
-    runs(13, 8, FLY_SCRATCH, (fly_answer){0, 0, 6, 4, 11});
-    runs(6, 8, FLY_SCRATCH, (fly_answer){0, 0, 0, 0, 0});
-    runs(UINT32_MAX, 8, FLY_SCRATCH, (fly_answer){0, 1, 8, 8, 17});
-    runs(19, 7, FLY_SCRATCH, (fly_answer){9, 0, 0, 0, 0});
-    runs(19, 0, FLY_SCRATCH, (fly_answer){9, 0, 0, 0, 0});
-    runs(19, 8, FLY_SCRATCH - 1, (fly_answer){8, 0, 0, 0, 0});
-    runs(19, 0, 0, (fly_answer){8, 0, 0, 0, 0});
-    refuses(CASE_1, 9, 1);
-    refuses(CASE_1, 29, 3);
-    refuses(CIRCLE, sizeof CIRCLE, 7);
-    prints(CASE_1, sizeof CASE_1, SHEET_1);
-    prints(CIRCLE, sizeof CIRCLE, "refused 7\n");
-    prints(CASE_1, 0, "refused 1\n");
+    make_bytes();
+    make_log_and_sheet();
+    runs(&CASE_1, 19, FLY_LOG, FLY_SCRATCH + MORE, (fly_answer){0, 1, 8, 8, 17});
+    runs(&CASE_1, 17, 8, FLY_SCRATCH, (fly_answer){0, 1, 8, 8, 17});
+    runs(&CASE_1, 16, 8, FLY_SCRATCH, (fly_answer){0, 0, 8, 7, 16});
+    runs(&CASE_1, 13, 8, FLY_SCRATCH, (fly_answer){0, 0, 6, 4, 11});
+    runs(&CASE_1, 6, 8, FLY_SCRATCH, (fly_answer){0, 0, 0, 0, 0});
+    runs(&CASE_1, UINT32_MAX, 8, FLY_SCRATCH, (fly_answer){0, 1, 8, 8, 17});
+    runs(&CASE_1, 19, 7, FLY_SCRATCH, (fly_answer){FLY_SHORT_LOG, 0, 0, 0, 0});
+    runs(&CASE_1, 19, 0, FLY_SCRATCH, (fly_answer){FLY_SHORT_LOG, 0, 0, 0, 0});
+    runs(&CASE_1, 19, 8, FLY_SCRATCH - 1, (fly_answer){FLY_SHORT_SCRATCH, 0, 0, 0, 0});
+    runs(&CASE_1, 19, 0, 0, (fly_answer){FLY_SHORT_SCRATCH, 0, 0, 0, 0});
+    runs(&LIMITS, FLY_MAX_SPENT, FLY_LOG, FLY_SCRATCH, (fly_answer){0, 1, 2048, 2048, 20302});
+    refuses(&STUB, FLY_TRUNCATED);
+    refuses(&SHORT, FLY_WRONG_LENGTH);
+    refuses(&CIRCLE, FLY_CYCLIC);
+    prints(&CASE_1);
+    prints(&NOTHING);
+    prints(&CIRCLE);
+    prints(&LIMITS);
     together();
     stack_use();
     puts("promises kept");

@@ -55,11 +55,12 @@ sameList [] (y ∷ ys) = false
 sameList (x ∷ xs) [] = false
 sameList (x ∷ xs) (y ∷ ys) = eqb x y and sameList xs ys
 
-unfoldable pub numberOf : Verdict → ℕ
-numberOf go = 0
-numberOf hold = 1
-numberOf split = 2
-numberOf «open» = 3
+-- the place of a verdict in the order of the test
+unfoldable pub placeOf : Verdict → ℕ
+placeOf go = 0
+placeOf hold = 1
+placeOf split = 2
+placeOf «open» = 3
 
 unfoldable pub verdictsOf : Theory → List ℕ → List Verdict
 verdictsOf d l = map (verdict (taggedBy 4 (held l))) (upto (d .atoms))
@@ -67,7 +68,7 @@ verdictsOf d l = map (verdict (taggedBy 4 (held l))) (upto (d .atoms))
 unfoldable pub gives : Row → Outcome → Bool
 gives r o =
     both (o .finished) (r .finished) and sameList (logOf o) (r .log) and eqb (worked o) (r .worked) and eqb (o .spent) (r .spent)
-    and eqb (bound (r .given)) (r .most) and sameList (map numberOf (verdictsOf (r .given) (logOf o))) (map numberOf (r .verdicts))
+    and eqb (bound (r .given)) (r .most) and sameList (map placeOf (verdictsOf (r .given) (logOf o))) (map placeOf (r .verdicts))
 
 unfoldable pub allGive : List Row → Bool
 allGive [] = true

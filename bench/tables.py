@@ -1,7 +1,8 @@
 #!/usr/bin/env python3
-"""running.py SHAPE K: a legal table of a shape at 1/K of the limits, on standard output.
+"""tables.py SHAPE K: a legal table of a shape at 1/K of the limits, on standard output.
 chain: each literal rests on the one before; star: all rules on one atom, pairs among them; teams: for each atom two rules beat two;
-random: seeded. SHAPE none: nine 0 bytes, the baseline."""
+random: seeded; full: every size at 1/K of its limit, rules of every kind, 4 antecedents to each, each of the first rules over the 4 after
+it; empty: nothing, for any K."""
 import random, struct, sys
 shape, k = sys.argv[1], int(sys.argv[2])
 def table(a, facts, rules, pairs):
@@ -11,8 +12,11 @@ def table(a, facts, rules, pairs):
     sizes = [a, len(set(facts)), len(rules), len(entries), len(set(pairs))]
     words = sizes + [l for l, r in rows] + [r for l, r in rows]
     sys.stdout.buffer.write(struct.pack('<%dH' % len(words), *words))
-if shape == 'none':
-    sys.stdout.buffer.write(bytes(9))
+if shape == 'empty':
+    table(0, [], [], [])
+elif shape == 'full':
+    a, f, n, p = 512 // k, 1024 // k, 1024 // k, 2048 // k
+    table(a, range(f), [(i % 3, i % (2 * a), range(4)) for i in range(n)], [(i // 4, i // 4 + 1 + i % 4) for i in range(p)])
 elif shape == 'chain':
     a, n = 512 // k, 1024 // k
     table(a, [0], [(1, 2 * (1 + i % (a - 1)), [2 * (i % (a - 1))]) for i in range(n)], [])

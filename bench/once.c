@@ -1,0 +1,42 @@
+/* once FUNCTION [WHAT]: one call on the table on standard input, for count.sh to count. fly_sheet prints the sheet; an engine (fly_run,
+ * c_run, flags_run) takes a budget as WHAT, and its answer and log are printed, a number on each line. WHAT may be `judge`: then no
+ * scratch is lent, and an accepted table is refused by 8 once it is judged, and none is cleared. Any other refusal is an error. */
+#include "c_engine.h"
+#include "c_flags.h"
+
+#include <stdio.h>
+#include <stdlib.h>
+#include <string.h>
+
+typedef fly_answer engine(const uint8_t *table, size_t table_len, uint32_t budget, uint16_t *log, size_t log_len, uint16_t *scratch,
+                          size_t scratch_len);
+
+static engine *named(const char *name)
+{
+    return strcmp(name, "fly_run") == 0 ? fly_run : strcmp(name, "c_run") == 0 ? c_run : strcmp(name, "flags_run") == 0 ? flags_run : NULL;
+}
+
+int main(int argc, char **argv)
+{
+    /* Aligned, so that the call's place on the stack does not hang on the environment's length: memset's count does on its address. */
+    _Alignas(4096) uint8_t sheet[FLY_SHEET];
+    static uint8_t table[32779];
+    static uint16_t log[FLY_LOG], scratch[FLY_SCRATCH];
+    size_t len = fread(table, 1, sizeof table, stdin);
+    if (argc == 2 && strcmp(argv[1], "fly_sheet") == 0) {
+        fwrite(sheet, 1, fly_sheet(table, len, sheet), stdout);
+        return 0;
+    }
+    engine *run = argc == 3 ? named(argv[1]) : NULL;
+    if (run == NULL)
+        return fprintf(stderr, "usage: once fly_sheet | once fly_run|c_run|flags_run BUDGET|judge\n"), 2;
+    int judging = strcmp(argv[2], "judge") == 0;
+    fly_answer got = run(table, len, (uint32_t)strtoul(argv[2], NULL, 10), log, FLY_LOG, scratch, judging ? 0 : FLY_SCRATCH);
+    if (got.refused != (judging ? 8 : 0))
+        return fprintf(stderr, "once: %s %s: refused by %u\n", argv[1], argv[2], (unsigned)got.refused), 1;
+    printf("finished %u lines %u worked %u spent %u\n", (unsigned)got.finished, (unsigned)got.lines, (unsigned)got.worked,
+           (unsigned)got.spent);
+    for (uint32_t i = 0; i < got.lines; i++)
+        printf("%u\n", (unsigned)log[i]);
+    return 0;
+}
