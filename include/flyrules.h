@@ -62,8 +62,8 @@ extern "C" {
 #define FLY_OPPOSITE(line) ((line) / 4u % 2u)
 
 enum fly_tag {
-    FLY_DEFINITELY = 0,     /* +Δ: it is a fact, or strict rules draw it from facts */
-    FLY_NOT_DEFINITELY = 1, /* −Δ: shown not to be so drawn */
+    FLY_DEFINITELY = 0,     /* +Δ: it is a fact, or follows by strict rules alone */
+    FLY_NOT_DEFINITELY = 1, /* −Δ: shown not to be so */
     FLY_DEFEASIBLY = 2,     /* +∂: it holds, as the rules stand */
     FLY_NOT_DEFEASIBLY = 3  /* −∂: shown to have no such proof */
 };

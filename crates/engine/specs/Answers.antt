@@ -47,8 +47,12 @@ runOf b budget = run (plainSystem (theoryOf b)) budget
 abbrev pub countsIn : Outcome → Counts
 countsIn o = record { lines = lines o; worked = worked o; spent = o .spent }
 
+-- "All worked: finished.", else stopped
+abbrev pub answerOf : Outcome → Answer
+answerOf o = cond (o .finished) (Finished (countsIn o)) (Stopped (countsIn o))
+
 unfoldable pub answerTo : Judgement → Outcome → Answer
-answerTo (judgement.Accepted s) o = cond (o .finished) (Finished (countsIn o)) (Stopped (countsIn o))
+answerTo (judgement.Accepted s) o = answerOf o
 answerTo (judgement.Refused n) o = Refused n
 
 -- "Log words past the lines are untouched"; "A refusal .. writes nothing."

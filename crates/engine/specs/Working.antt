@@ -12,11 +12,10 @@ use Rattle.logic.specs.Worklist.{Outcome, logOf, lines, grow, initial}
 use Rattle.logic.specs.Reading.{heads}
 use Rattle.logic.specs.Plain.{plainSystem}
 use Rattle.engine.specs.declared.answer.Answer.{Answer}
-use Rattle.engine.specs.declared.answer.Answer.the-variants.{Stopped, Finished}
 use Rattle.memory.specs.Layout.{tagCount}
 use Rattle.memory.specs.Memory.{heldOf, writtenOf, Ready}
 use Rattle.memory.specs.Api.{adds, Kept}
-use Rattle.engine.specs.Answers.{countsIn}
+use Rattle.engine.specs.Answers.{answerOf}
 
 -- The log has n lines: a derivation without repeats, and just what is written by the memory. It has room for every line.
 pub record Logged (d : Theory) (mem log : List ℕ) (n : ℕ) : Type 0 where
@@ -69,10 +68,6 @@ pub record Opened (d : Theory) (mem log mem′ log′ : List ℕ) (n : ℕ) : Ty
   pub size : length log′ ≡ length log
   pub held : (x : ℕ) → heldOf mem′ x ≡ heldOf mem x
   pub kept : Kept mem mem′
-
--- an outcome as an answer
-abbrev pub answerOf : Outcome → Answer
-answerOf o = cond (o .finished) (Finished (countsIn o)) (Stopped (countsIn o))
 
 -- The run is at its end.
 pub record Worked (o : Outcome) (mem log mem′ log′ : List ℕ) (a : Answer) : Type 0 where

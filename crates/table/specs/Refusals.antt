@@ -103,15 +103,16 @@ unfoldable pub refusedBy : Judgement → ℕ
 refusedBy (Accepted s) = 0
 refusedBy (Refused n) = numberOf n
 
--- the faults of a table in the order of their numbers, from 1 on, and the number of the first that applies, 0 if none does
+-- the paper's list of faults, 1 to 7, in its order
 abbrev pub faults : List ℕ → Sizes → List Bool
 faults b s = ltb (length b) 10 ∷ oversize s ∷ wrongLength b s ∷ badKind b s ∷ outOfRange b s ∷ disorder b s ∷ cycle b s ∷ []
 
+-- the number of the first fault of a list that applies, where n is the number of its first; 0 if none applies
 unfoldable pub firstFrom : ℕ → List Bool → ℕ
 firstFrom n [] = 0
 firstFrom n (f ∷ fs) = cond f n (firstFrom (n + 1) fs)
 
--- What `judge` hands over: the judgement, and its number.
+-- What `judge` hands over: the judgement, and "The lowest number that applies anywhere in the table".
 pub record Judged (b : List ℕ) (j : Judgement) : Type 0 where
   pub judgement : j ≡ judgementOf b
   pub number : refusedBy j ≡ firstFrom 1 (faults b (sizesOf b))
