@@ -32,6 +32,7 @@ LEFT, RIGHT = -1, 1
 INK, GREY, FOR, AGAINST = '#222', '#555', '#00795a', '#c0392b'
 HOW_TO_READ = 'Each box is a statement, with its line of the sheet: number and word. The word says whether the statement holds.'
 VERDICTS = {
+    'clash': ('#a85400', 'the table says both that it holds and that it does not'),
     'go': (FOR, 'the rules say that it holds'),
     'hold': (AGAINST, 'the rules say that it does not hold'),
     'split': ('#8e44ad', 'proved: neither it nor its opposite has a proof'),
@@ -208,6 +209,8 @@ def arrow(x1, x2, y, way, kind, head):
 def shape(x, y, verdict):
     """The shape that goes with a verdict, so that it needs no colour."""
     colour = VERDICTS[verdict][0]
+    if verdict == 'clash':
+        return [path(['M', x - 7, y - s * 7, 'L', x + 7, y + s * 7], stroke=colour, stroke_width=4) for s in (-1, 1)]
     if verdict == 'go':
         return [polygon([(x - 7, y - 8), (x + 8, y), (x - 7, y + 8)], colour)]
     if verdict == 'hold':

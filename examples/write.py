@@ -65,6 +65,15 @@ EXAMPLES = {
         "nobody said whose rule is stronger: split. Bar 9 rests on the follow spot and the follow spot on bar 9; nothing proves\n"
         "either, and nothing refutes either: open.",
     ),
+    "limit-switch": (
+        "A limit switch typed as up and as not up (document 02, S-1)",
+        ["the limit switch of bar 4 is up", "bar 4 may travel"],
+        [0, ~0],
+        [(DEFEASIBLE, [~0], 1), (DEFEASIBLE, [0], ~1)],
+        [],
+        "The table says both that the switch is up and that it is not: clash. So both rules are met, and neither is over the other:\n"
+        "split. Bar 4 is hold once the second fact is taken out, and go once the first is.",
+    ),
     "circle": (
         "Priorities that go round",
         ["bar 5 may travel"],

@@ -184,9 +184,8 @@ def bodies():
 
 
 def longest():
-    """One record in the layout of sheets.bin."""
-    table, sheet = words(LONGEST), ''.join(line + '\n' for line in LONGEST_SHEET).encode()
-    return struct.pack('<H', len(table)) + table + struct.pack('<H', len(sheet)) + sheet + b'\xff\xff'
+    """One record in the layout of sheets-S1.bin."""
+    return field(words(LONGEST)) + field(''.join(line + '\n' for line in LONGEST_SHEET).encode())
 
 
 def main():

@@ -11,7 +11,7 @@
 //! comes from and what differs first (records, words, bytes and lines are counted from 0). Each of the answers must also have come often
 //! enough, unless fewer CALLS than the default are asked for.
 //!
-//! --vectors DIR: base.bin and sheets.bin there, against both engines, before the CALLS.
+//! --vectors DIR: base.bin and sheets-S1.bin there, against both engines, before the CALLS.
 //! --mutant K: the test's own test, of fewer CALLS. A deliberate fault in the slow engine or in what is expected of the buffers, which
 //! must end in a mismatch.
 //! --mutants: the number and the fault of each, a line for each K.
@@ -65,7 +65,7 @@ const MUTANTS: &[&str] = &[
     "scratch word 32,768 becomes 0 too",
     "scratch is left as it was if the opening is not paid",
     "the log word past the lines becomes 0",
-    "hold before go",
+    "go before clash",
     "the sheet's buffer is left past the text",
     "equal neighbours are in order",
 ];
@@ -632,13 +632,12 @@ impl Bench {
         r.end();
     }
 
-    /// sheets.bin, against both engines.
+    /// sheets-S1.bin, against both engines.
     fn sheet_vectors(&mut self, dir: &str) {
-        let mut r = Reader::open(dir, "sheets.bin");
-        while let Some(t) = r.table() {
+        let mut r = Reader::open(dir, "sheets-S1.bin");
+        while r.at < r.bytes.len() {
             self.place = r.place();
-            let length = r.word();
-            let text = r.bytes(length);
+            let (t, text) = (r.field(), r.field());
             self.slow_prints(&t, &String::from_utf8_lossy(&text));
             self.sheet(&t);
             r.record += 1;
@@ -741,7 +740,7 @@ fn sheets() -> Vec<(&'static str, Vec<u8>, &'static str)> {
     vec![
         ("case 1", case_1(), "atoms 2\n0 go\n1 go\nspent 17 of 19\n"),
         ("a rule from a literal to itself", itself(), "atoms 1\n0 open\nspent 6 of 9\n"),
-        ("facts 0 and 1", both(), "atoms 1\n0 go\nspent 7 of 7\n"),
+        ("facts 0 and 1", both(), "atoms 1\n0 clash\nspent 7 of 7\n"),
         ("a defeater", defeater(), "atoms 1\n0 split\nspent 7 of 7\n"),
         ("pairs (0,1),(1,0)", opposed(&[(0, 1), (1, 0)]), "refused 7\n"),
         ("the platypus", platypus(), "atoms 5\n0 go\n1 go\n2 go\n3 go\n4 go\nspent 47 of 51\n"),
@@ -771,7 +770,8 @@ fn two_rules(code: usize) -> Draft {
     d
 }
 
-/// A file of records, each of which begins with the length of its table; a length of 0xFFFF ends it.
+/// A file of records. In base.bin each begins with the length of its table, and a length of 0xFFFF ends the file; in a request's file
+/// each is fields, and the file ends after the last record.
 struct Reader {
     name: &'static str,
     bytes: Vec<u8>,
@@ -789,9 +789,9 @@ impl Reader {
         format!("{} record {}", self.name, self.record)
     }
 
-    fn bytes(&mut self, n: u16) -> Vec<u8> {
+    fn bytes(&mut self, n: usize) -> Vec<u8> {
         let from = self.at;
-        self.at += n as usize;
+        self.at += n;
         match self.bytes.get(from..self.at) {
             Some(bytes) => bytes.to_vec(),
             None => give_up(&format!("{}: the file ends within it", self.place())),
@@ -810,7 +810,13 @@ impl Reader {
 
     fn table(&mut self) -> Option<Vec<u8>> {
         let length = self.word();
-        (length != 0xFFFF).then(|| self.bytes(length))
+        (length != 0xFFFF).then(|| self.bytes(length as usize))
+    }
+
+    /// A count of four bytes, and as many bytes as it says.
+    fn field(&mut self) -> Vec<u8> {
+        let count = self.long();
+        self.bytes(count as usize)
     }
 
     /// An answer: 0 for finished, 255 for stopped, else the refusal's number; then lines, worked and spent.
@@ -823,7 +829,7 @@ impl Reader {
 
     fn end(&self) {
         if self.at != self.bytes.len() || self.record == 0 {
-            give_up(&format!("{}: the mark that ends the file, but there are bytes past it or no records before it", self.place()));
+            give_up(&format!("{}: the end of the file, but there are bytes past it or no records before it", self.place()));
         }
         println!("{} {} same {}", self.name, self.record, self.record);
     }

@@ -74,7 +74,7 @@ static void make_log_and_sheet(void) {
         limits_log[FACTS + q] = (uint16_t)(4 * q + 2);
     }
     end += sprintf(end, "atoms %d\n", ATOMS);
-    for (int a = 0; a < ATOMS; a++) end += sprintf(end, "%d go\n", a);
+    for (int a = 0; a < ATOMS; a++) end += sprintf(end, "%d clash\n", a);
     sprintf(end, "spent 20302 of 23040\n");
 }
 

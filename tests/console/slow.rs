@@ -424,9 +424,10 @@ pub fn sheet(bytes: &[u8]) -> String {
     let mut text = format!("atoms {}\n", theory.a);
     for a in 0..theory.a {
         let (yes, no) = (2 * a, 2 * a + 1);
-        // "Verdict of atom a, first that fits: go (+∂ of 2a), hold (+∂ of 2a+1), split (−∂ of both), open."
-        let verdict = if mutant(18) && has(no, PLUS_PARTIAL) {
-            "hold"
+        // "Verdict of atom a, first that fits: go (+∂ of 2a), hold (+∂ of 2a+1), split (−∂ of both), open." Document 02, S-1: "an atom
+        // whose two literals both have +∂ reads clash, tested before go."
+        let verdict = if has(yes, PLUS_PARTIAL) && has(no, PLUS_PARTIAL) && !mutant(18) {
+            "clash"
         } else if has(yes, PLUS_PARTIAL) {
             "go"
         } else if has(no, PLUS_PARTIAL) {

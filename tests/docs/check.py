@@ -1,7 +1,8 @@
 #!/usr/bin/env python3
 """Checks the documents against the tree, and says what is wrong. In docs/PROOF.md each must-fail edit is cited once, by `name` in the first
 cell of a row of its crate's table, and no row cites one that is not there; each file or folder that a document names from the root, or
-from crates/, is there, and so is each name in a code span; README prints the sheets of its examples and the header's command."""
+from crates/, is there, and so is each name in a code span; README prints the sheets of its examples and the header's command;
+docs/changes/README.md lists each note there."""
 import os
 import re
 import sys
@@ -95,8 +96,14 @@ def command_faults():
         yield f'README.md: the command of include/flyrules.h is another: {command}'
 
 
+def note_faults():
+    listed = ['README.md', *re.findall(r'\((S-\d+\.md)\)', read('docs/changes/README.md'))]
+    for note in set(listed) ^ set(os.listdir(os.path.join(ROOT, 'docs', 'changes'))):
+        yield f'docs/changes: {note} is {"not there" if note in listed else "not listed"}'
+
+
 def main():
-    faults = [*citation_faults(), *path_faults(), *name_faults(), *sheet_faults(), *command_faults()]
+    faults = [*citation_faults(), *path_faults(), *name_faults(), *sheet_faults(), *command_faults(), *note_faults()]
     print('\n'.join(faults or [f'edits {len(list(edits()))} cited {len(list(cited()))}']))
     sys.exit(bool(faults))
 

@@ -16,7 +16,8 @@ CASE_1 = write.words(write.CASE_1)
 LIMITS = write.words(write.large('512 1024 1024 4096 2048', write.FACTS + write.RULES + write.ENTRIES + write.PAIRS))
 
 CASE_1_SHEET = ['atoms 2', '0 go', '1 go', 'spent 17 of 19']
-LIMITS_SHEET = ['atoms 512', *(f'{atom} go' for atom in range(512)), 'spent 20302 of 23040']
+# every literal is a fact
+LIMITS_SHEET = ['atoms 512', *(f'{atom} clash' for atom in range(512)), 'spent 20302 of 23040']
 
 # What it is, the bytes of a file, and the sheet.
 FILES = [

@@ -66,6 +66,6 @@ fn main() {
     try_file(b"base.bin", Layout::Base, false);
     try_file(b"made.bin", Layout::Made, true);
     try_file(b"bodies.bin", Layout::Bodies, true);
-    try_file(b"sheets.bin", Layout::Sheets, false);
-    try_file(b"longest.bin", Layout::Sheets, false);
+    try_file(b"sheets-S1.bin", Layout::Sheets, true);
+    try_file(b"longest.bin", Layout::Sheets, true);
 }

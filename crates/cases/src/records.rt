@@ -76,11 +76,11 @@ pub fn body_differs(fd: i32, table: &[u8]) -> Difference {
     text_differs(came, came.len(), &text, n)
 }
 
-// u16 length of the text, and the text of the sheet.
+// The text of the sheet.
 pub fn sheet_differs(fd: i32, table: &[u8]) -> Difference {
     let sheet = sheet_of(table);
     let came = sheet.bytes;
-    let n = word(fd) as u32;
+    let n = long(fd);
     let text = bytes(fd, n);
     text_differs(&came, sheet.length, &text, n)
 }

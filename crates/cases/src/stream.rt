@@ -1,5 +1,5 @@
 // The data files, read from start to end. The low byte of a number comes first. Past the end of a file a number is read as if every
-// byte were 255, so that a count there is at least END, as is the mark that ends base.bin and sheets.bin. Every other count is smaller.
+// byte were 255, so that a count there is at least END, as is the mark that ends base.bin. Every other count is smaller.
 pub const END: u32 = 65535;
 
 pub fn join(low: u8, high: u8) -> u16 {

@@ -11,7 +11,7 @@ use Rattle.logic.specs.System.{held}
 use Rattle.logic.specs.Worklist.{Outcome, logOf, worked, run}
 use Rattle.logic.specs.Reading.{taggedBy}
 use Rattle.logic.specs.Plain.{plainSystem, bound}
-use Rattle.logic.specs.Verdict.{Verdict, go, hold, split, «open», verdict}
+use Rattle.logic.specs.Verdict.{Verdict, clash, go, hold, split, «open», verdict}
 
 unfoldable pub rule : Kind → ℕ → List ℕ → Rule
 rule k q l = record { kind = k; head = q; body = l }
@@ -57,10 +57,11 @@ sameList (x ∷ xs) (y ∷ ys) = eqb x y and sameList xs ys
 
 -- the place of a verdict in the order of the test
 unfoldable pub placeOf : Verdict → ℕ
-placeOf go = 0
-placeOf hold = 1
-placeOf split = 2
-placeOf «open» = 3
+placeOf clash = 0
+placeOf go = 1
+placeOf hold = 2
+placeOf split = 3
+placeOf «open» = 4
 
 unfoldable pub verdictsOf : Theory → List ℕ → List Verdict
 verdictsOf d l = map (verdict (taggedBy 4 (held l))) (upto (d .atoms))

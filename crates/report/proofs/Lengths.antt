@@ -9,7 +9,7 @@ use mathlib.Core.List.{List, _++_}
 use lib.ListN.{length, take, length-append}
 use Rattle.logic.specs.System.{held}
 use Rattle.logic.specs.Reading.{taggedBy}
-use Rattle.logic.specs.Verdict.{Verdict, go, hold, split, «open», verdict}
+use Rattle.logic.specs.Verdict.{Verdict, clash, go, hold, split, «open», verdict}
 use Rattle.logic.proofs.Tests.{at-most}
 use Rattle.report.specs.Text.{decimal, wordOf, atomsWord, spentWord, ofWord, refusedWord, space, newline}
 use Rattle.report.specs.Sheet.{atomLine, atomLines, countLine, spentLine, runSheet, refusedSheet, verdictIn}
@@ -20,6 +20,7 @@ use Rattle.report.proofs.Marking.{verdict-same}
 
 word-length : (v : Verdict) → length (wordOf v) ≤ 5
 unfolding wordOf
+word-length clash = omega arith
 word-length go = omega arith
 word-length hold = omega arith
 word-length split = omega arith

@@ -5,7 +5,7 @@ use native.Mathlib.Numerals.{add-one}
 use native.Mathlib.Omega.{arith}
 use mathlib.Core.Path.{_≡_, refl, sym, _∙_, ap, ap₂, subst}
 use mathlib.Core.Logic.{⊎-elim, _⊎_}
-use mathlib.Core.Bool.{Bool, cond}
+use mathlib.Core.Bool.{Bool}
 use mathlib.Core.List.{List, [], _∷_, _++_}
 use lib.Dec.{T, eqb, eqb→eq, eqb-refl}
 use lib.ListN.{length, getD, set, take, replicate, length-replicate, getD-replicate}
@@ -14,7 +14,7 @@ use Rattle.logic.specs.Tests.{_and_, member}
 use Rattle.logic.specs.Reading.{taggedBy}
 use Rattle.logic.specs.Theory.{atom, complement}
 use Rattle.logic.specs.Inference.{+∂, −∂}
-use Rattle.logic.specs.Verdict.{Verdict, go, hold, split, «open», verdict}
+use Rattle.logic.specs.Verdict.{firstFit, verdict}
 use Rattle.logic.proofs.Tests.{test-cases, test-eq, false-of, eq→eqb}
 use Rattle.logic.proofs.Lists.{member-nil, member-last, member-left, member-snoc}
 use Rattle.report.specs.Printing.{marked}
@@ -63,15 +63,16 @@ all-marked m log h l f x b = f x b ∙ ap (λ z. member x (take z log)) (le-anti
 
 -- the verdict by an atom's four tests
 verdict-from : (h : ℕ → ℕ → Bool) (a : ℕ) {proved opposed refuted unopposed : Bool} → h (2 * a) +∂ ≡ proved → h (2 * a + 1) +∂ ≡ opposed → h (2 * a) −∂ ≡ refuted
-    → h (2 * a + 1) −∂ ≡ unopposed → verdict h a ≡ cond proved go (cond opposed hold (cond (refuted and unopposed) split «open»))
-verdict-from h a p o r u =
-    ap₂ (λ x (y : Verdict). cond x go y) p (ap₂ (λ x (y : Verdict). cond x hold y) o (ap₂ (λ x y. cond (x and y) split «open») r u))
+    → h (2 * a + 1) −∂ ≡ unopposed → verdict h a ≡ firstFit (proved and opposed) proved opposed (refuted and unopposed)
+verdict-from h a p o r u = simp (p, o, r, u)
 
 -- by the literal that says that it holds, and its complement
-pub verdict-by : (h : ℕ → ℕ → Bool) (q n : ℕ) {proved opposed refuted unopposed : Bool} → q ≡ 2 * atom q → n ≡ complement q → h q +∂ ≡ proved → h n +∂ ≡ opposed
-    → h q −∂ ≡ refuted → h n −∂ ≡ unopposed → verdict h (atom q) ≡ cond proved go (cond opposed hold (cond (refuted and unopposed) split «open»))
-verdict-by h q n e f p o r u =
+pub verdict-by : (h : ℕ → ℕ → Bool) (q n : ℕ) {proved opposed refuted unopposed isClash isSplit : Bool} → q ≡ 2 * atom q → n ≡ complement q → h q +∂ ≡ proved → h n +∂ ≡ opposed
+    → h q −∂ ≡ refuted → h n −∂ ≡ unopposed → isClash ≡ (proved and opposed) → isSplit ≡ (refuted and unopposed)
+    → verdict h (atom q) ≡ firstFit isClash proved opposed isSplit
+verdict-by h q n {proved} {opposed} e f p o r u c s =
     verdict-from h (atom q) (ap (λ x. h x +∂) (sym e) ∙ p) (ap (λ x. h x +∂) other ∙ o) (ap (λ x. h x −∂) (sym e) ∙ r) (ap (λ x. h x −∂) other ∙ u)
+    ∙ sym (ap₂ (λ x y. firstFit x proved opposed y) c s)
   where
     other : 2 * atom q + 1 ≡ n
     other = omega arith

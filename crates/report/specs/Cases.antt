@@ -6,7 +6,7 @@ use mathlib.Core.List.{List, [], _∷_, _++_, map}
 use lib.Dec.{eqb}
 use lib.ListN.{length, replicate}
 use Rattle.logic.specs.Tests.{_and_, upto}
-use Rattle.logic.specs.Verdict.{Verdict, go, split, «open»}
+use Rattle.logic.specs.Verdict.{Verdict, clash, go, split, «open»}
 use Rattle.logic.specs.Cases.{sameList}
 use Rattle.table.specs.declared.judge.Judgement.{Judgement}
 use Rattle.table.specs.declared.judge.Judgement.the-variants.{Accepted, Refused}
@@ -86,8 +86,8 @@ rows =
     row (0 ∷ 0 ∷ 0 ∷ 0 ∷ 0 ∷ []) 0 0 32768 0 1 [] 0 0 0 [] ∷
     -- "One atom, a defeasible rule from literal 0 to 0: log 1,5,7; spent 6; open."
     row (1 ∷ 0 ∷ 1 ∷ 1 ∷ 0 ∷ 1 ∷ 0 ∷ 0 ∷ 0 ∷ []) 9 4 32768 0 1 (1 ∷ 5 ∷ 7 ∷ []) 3 6 9 («open» ∷ []) ∷
-    -- "Facts 0 and 1, one atom: log 0,4,2,6; spent 7, which is the bound; go."
-    row (1 ∷ 2 ∷ 0 ∷ 0 ∷ 0 ∷ 0 ∷ 0 ∷ 0 ∷ 1 ∷ []) 7 4 32768 0 1 (0 ∷ 4 ∷ 2 ∷ 6 ∷ []) 4 7 7 (go ∷ []) ∷
+    -- "Facts 0 and 1, one atom: log 0,4,2,6; spent 7, which is the bound"; document 02, S-1: it "changes to clash; logs and prices stay".
+    row (1 ∷ 2 ∷ 0 ∷ 0 ∷ 0 ∷ 0 ∷ 0 ∷ 0 ∷ 1 ∷ []) 7 4 32768 0 1 (0 ∷ 4 ∷ 2 ∷ 6 ∷ []) 4 7 7 (clash ∷ []) ∷
     -- "No antecedents, rule 0 defeasible to 0, rule 1 defeater to 1: log 1,5,3,7; split."
     row (1 ∷ 0 ∷ 2 ∷ 0 ∷ 0 ∷ 1 ∷ 2 ∷ 0 ∷ 1 ∷ []) 7 4 32768 0 1 (1 ∷ 5 ∷ 3 ∷ 7 ∷ []) 4 7 7 (split ∷ []) ∷
     -- "Pairs (0,1),(1,0): 7." "Pair (0,0): 7."

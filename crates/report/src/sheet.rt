@@ -23,7 +23,7 @@ use table::format::Sizes;
 use table::format::read_sizes;
 use table::judge::Refusal;
 
-// A sheet: its bytes, and zeros past them. The longest has 5,041: 512 atoms that are split, and five digits spent of five.
+// A sheet: its bytes, and zeros past them. The longest has 5,041: 512 atoms that clash or are split, and five digits spent of five.
 pub struct Sheet {
     pub bytes: [u8; 5041],
     pub length: usize,

@@ -1,19 +1,19 @@
 // The verdict of an atom by the lines of a log.
 ghost use Prim.Native.Nat.{_+_, _*_, _≤_, _<_};
 ghost use mathlib.Core.Path.{_≡_};
-ghost use mathlib.Core.Bool.{cond};
 ghost use lib.ListN.{length, take};
 ghost use Rattle.logic.specs.Reading.{taggedBy};
-ghost use Rattle.logic.specs.Tests.{_and_};
 ghost use Rattle.logic.specs.Theory.{atom};
-ghost use Rattle.logic.specs.Verdict.{go, hold, split, «open», verdict};
+ghost use Rattle.logic.specs.Verdict.{firstFit, verdict};
 ghost use Rattle.report.specs.Text.{meant, wordOf};
 ghost use Rattle.report.specs.Printing.{Put, Markable, Marked, marked};
 use crate::text::put;
 use table::format::Literal;
+use values::both;
 use values::wide;
 
 pub enum Verdict {
+    Clash,
     Go,
     Hold,
     Split,
@@ -42,20 +42,20 @@ fn has_line(marks: &[u8], q: Literal, tag: u16) -> bool
     marks[x as usize] == 1
 }
 
-// The first that fits: +∂ of 2a, +∂ of 2a + 1, −∂ of both.
-fn first_fit(proved: bool, opposed: bool, refuted: bool, unopposed: bool) -> Verdict
-    ensures { λ r. ⌜ meant r ≡ cond proved go (cond opposed hold (cond (refuted and unopposed) split «open»)) ⌝ }
+fn first_fit(clash: bool, go: bool, hold: bool, split: bool) -> Verdict
+    ensures { λ r. ⌜ meant r ≡ firstFit clash go hold split ⌝ }
 {
-    if proved {
+    if clash {
+        return Verdict::Clash;
+    }
+    if go {
         return Verdict::Go;
     }
-    if opposed {
+    if hold {
         return Verdict::Hold;
     }
-    if refuted {
-        if unopposed {
-            return Verdict::Split;
-        }
+    if split {
+        return Verdict::Split;
     }
     Verdict::Open
 }
@@ -70,7 +70,9 @@ pub fn verdict_of(marks: &[u8], q: Literal) -> Verdict
     let opposed = has_line(marks, n, 2);
     let refuted = has_line(marks, q, 3);
     let unopposed = has_line(marks, n, 3);
-    first_fit(proved, opposed, refuted, unopposed)
+    let clash = both(proved, opposed);
+    let split = both(refuted, unopposed);
+    first_fit(clash, proved, opposed, split)
 }
 
 pub fn put_verdict(out: &mut [u8], at: usize, v: Verdict) -> usize
@@ -78,6 +80,7 @@ pub fn put_verdict(out: &mut [u8], at: usize, v: Verdict) -> usize
     ensures { λ r. ⌜ Put (now (out .entry)) at (wordOf (meant v)) (now (out .exit)) r ⌝ }
 {
     match v {
+        Verdict::Clash => put(out, at, b"clash"),
         Verdict::Go => put(out, at, b"go"),
         Verdict::Hold => put(out, at, b"hold"),
         Verdict::Split => put(out, at, b"split"),

@@ -9,14 +9,17 @@ use Rattle.report.proofs.verdict.verdict_of.Tie as tie
 
 returns : tie.Need-returns
 returns c =
-    let at-has-line4 = c .before in let at-has-line3 = at-has-line4 .before in let at-has-line2 = at-has-line3 .before in let at-has-line = at-has-line2 .before in
+    let at-both2 = c .before in let at-both = at-both2 .before in
+    let at-has-line4 = at-both .before in let at-has-line3 = at-has-line4 .before in let at-has-line2 = at-has-line3 .before in let at-has-line = at-has-line2 .before in
     let at-complement = at-has-line .before in let start = at-complement .before .before in let args = start .args in
     c .first-fit .ensures ∙ sym
     (verdict-by (taggedBy 4 (marked (args .marks .now))) (args .q .0) _ (start .pre .0) (at-complement .complement .ensures) (sym (at-has-line .has-line .ensures))
-    (sym (at-has-line2 .has-line2 .ensures)) (sym (at-has-line3 .has-line3 .ensures)) (sym (at-has-line4 .has-line4 .ensures)))
+    (sym (at-has-line2 .has-line2 .ensures)) (sym (at-has-line3 .has-line3 .ensures)) (sym (at-has-line4 .has-line4 .ensures))
+    (at-both .both .ensures) (at-both2 .both2 .ensures))
 
 pub verdict-of-spec : {M : Type 1} → statement M
 verdict-of-spec =
     tie.close
     (tie.spec
-    (λ c κs. search needs) (λ c κs. search needs) (λ c κs. search needs) (λ c κs. search needs) (λ c κs. search needs) (λ c κs. search needs) returns)
+    (λ c κs. search needs) (λ c κs. search needs) (λ c κs. search needs) (λ c κs. search needs) (λ c κs. search needs) (λ c κs. search needs)
+    (λ c κs. search needs) (λ c κs. search needs) returns)
