@@ -1,6 +1,6 @@
-/* c_check base.bin: each C engine on every vector, on its table with buffers that are too short, on tables made by hand and on rings of
- * pairs. Each run is compared in the five numbers of the answer, the table, and every word of log and scratch; for one that differs a
- * line says what differs first, what came and what was wanted. */
+/* c_check base.bin short-logs.bin: each C engine on every vector of both files, on the tables of base.bin with other buffers, among them
+ * such as are too short, on tables made by hand and on rings of pairs. Each run is compared in the five numbers of the answer, the table,
+ * and every word of log and scratch; for one that differs a line says what differs first, what came and what was wanted. */
 #include "c_engine.h"
 #include "c_flags.h"
 
@@ -130,14 +130,16 @@ static int all_same(const char *what, tally of)
 
 /* ---- the vectors ---- */
 
+/* A file of records, read up to at. */
 typedef struct {
+    const char *name;
     const uint8_t *at, *end;
     size_t record;
 } reader;
 
 static void give_up(const reader *r, const char *why)
 {
-    fprintf(stderr, "c_check: vector %zu: %s\n", r->record, why);
+    fprintf(stderr, "c_check: %s: record %zu: %s\n", r->name, r->record, why);
     exit(2);
 }
 
@@ -161,10 +163,20 @@ static uint32_t u32(reader *r)
     return low | (uint32_t)u16(r) << 16;
 }
 
-/* Reads a record but for the lengths of the buffers; 0 at the mark that ends the file. */
-static int next(reader *r, trial *t)
+/* As many words as the answer has lines. */
+static const uint16_t *lines_of(reader *r, fly_answer a)
 {
     static uint16_t lines[FLY_LOG];
+    if (a.lines > FLY_LOG)
+        give_up(r, "more lines than a log has");
+    for (size_t i = 0; i < a.lines; i++)
+        lines[i] = u16(r);
+    return lines;
+}
+
+/* Reads a record of base.bin, which has no lengths of buffers; 0 at the mark that ends the file. */
+static int next(reader *r, trial *t)
+{
     t->len = u16(r);
     if (t->len == 0xFFFF)
         return 0;
@@ -176,51 +188,88 @@ static int next(reader *r, trial *t)
     t->want.lines = u16(r);
     t->want.worked = u16(r);
     t->want.spent = u32(r);
-    if (t->want.lines > FLY_LOG)
-        give_up(r, "more lines than a log has");
-    for (size_t i = 0; i < t->want.lines; i++)
-        lines[i] = u16(r);
-    t->lines = lines;
+    t->lines = lines_of(r, t->want);
     return 1;
 }
 
-/* The words of log that a table needs: four for each atom. */
-static size_t log_needed(const trial *t)
+/* The words of log that are enough for every run of a table: four for each atom. */
+static size_t full_log(const trial *t)
 {
-    size_t need = t->len < 2 ? 0 : 4 * (t->table[0] | (size_t)t->table[1] << 8);
-    return need < FLY_LOG ? need : FLY_LOG;
+    size_t full = t->len < 2 ? 0 : 4 * (t->table[0] | (size_t)t->table[1] << 8);
+    return full < FLY_LOG ? full : FLY_LOG;
 }
 
-/* Refusals 8 and 9 come after 1 to 7, and in this order. */
-static void try_short_buffers(tally *shorts, const char *name, const trial *vector)
+static size_t less_one(size_t n) { return n ? n - 1 : 0; }
+
+/* Refusals 8 and 9 come after 1 to 7, and in this order; 9 where the run writes more lines than the log has words. */
+static void try_buffers(tally *all, const char *name, const trial *vector)
 {
-    size_t need = log_needed(vector);
+    fly_answer a = vector->want;
+    size_t full = full_log(vector);
+    const size_t lengths[] = {0, less_one(a.worked), a.worked, less_one(a.lines), a.lines, a.lines + 1, less_one(full)};
     trial t = *vector;
-    uint32_t judged = vector->want.refused;
-    t.want = (fly_answer){judged ? judged : 8, 0, 0, 0, 0};
-    count(shorts, is_same_in(name, t, need, FLY_SCRATCH - 1));
-    count(shorts, is_same_in(name, t, 0, 0));
-    if (need == 0)
-        return;
-    t.want.refused = judged ? judged : 9;
-    count(shorts, is_same_in(name, t, need - 1, SCRATCH_WORDS));
+    t.want = (fly_answer){a.refused ? a.refused : 8, 0, 0, 0, 0};
+    count(all, is_same_in(name, t, full, FLY_SCRATCH - 1));
+    count(all, is_same_in(name, t, 0, 0));
+    for (size_t i = 0; i < sizeof lengths / sizeof *lengths; i++) {
+        t.want = a.lines > lengths[i] ? (fly_answer){9, 0, 0, 0, 0} : a;
+        count(all, is_same_in(name, t, lengths[i], SCRATCH_WORDS));
+    }
 }
 
-static int check_vectors(const uint8_t *file, size_t size)
+static int check_vectors(reader r)
 {
-    reader r = {file, file + size, 0};
-    tally vectors = {0, 0}, shorts = {0, 0};
+    tally vectors = {0, 0}, buffers = {0, 0};
     for (trial t; next(&r, &t); r.record++) {
         char name[32];
         snprintf(name, sizeof name, "vector %zu", r.record);
-        size_t need = log_needed(&t);
-        count(&vectors, is_same_in(name, t, need, FLY_SCRATCH) && is_same_in(name, t, need + SPARE, SCRATCH_WORDS));
-        try_short_buffers(&shorts, name, &t);
+        size_t full = full_log(&t);
+        count(&vectors, is_same_in(name, t, full, FLY_SCRATCH) && is_same_in(name, t, full + SPARE, SCRATCH_WORDS));
+        try_buffers(&buffers, name, &t);
     }
     if (r.at != r.end)
         give_up(&r, "the mark that ends the file, and bytes past it");
     int same = all_same("vectors", vectors);
-    return all_same("short buffers", shorts) && same;
+    return all_same("other buffers", buffers) && same;
+}
+
+/* A number in a file of fields, each of which has its count of bytes before it. */
+static uint32_t number(reader *r)
+{
+    if (u32(r) != 4)
+        give_up(r, "a number of other than four bytes");
+    return u32(r);
+}
+
+/* Reads a record of short-logs.bin. */
+static trial next_short(reader *r)
+{
+    trial t = {.len = u32(r)};
+    t.table = bytes(r, t.len);
+    t.budget = number(r);
+    t.log_len = number(r);
+    t.scratch_len = number(r);
+    t.want.refused = number(r);
+    t.want.finished = number(r);
+    t.want.lines = number(r);
+    t.want.worked = number(r);
+    t.want.spent = number(r);
+    if (t.log_len > LOG_WORDS || t.scratch_len > SCRATCH_WORDS || u32(r) != 2 * t.want.lines)
+        give_up(r, "longer buffers than there are, or a log of other than its lines");
+    t.lines = lines_of(r, t.want);
+    return t;
+}
+
+static int check_short_logs(reader r)
+{
+    tally all = {0, 0};
+    for (; r.at != r.end; r.record++) {
+        char name[32];
+        snprintf(name, sizeof name, "short log %zu", r.record);
+        trial t = next_short(&r);
+        count(&all, is_same(name, &t));
+    }
+    return all_same("short logs", all);
 }
 
 /* ---- tables made by hand ---- */
@@ -340,25 +389,34 @@ static int check_rings(void)
 }
 
 /* Whether the engine gives what it must everywhere. */
-static int check(const char *name, engine *run, const uint8_t *file, size_t size)
+static int check(const char *name, engine *run, reader base, reader short_logs)
 {
     under.name = name;
     under.run = run;
-    int vectors = check_vectors(file, size), by_hand = check_made(), rings = check_rings();
-    return vectors && by_hand && rings;
+    int vectors = check_vectors(base), logs = check_short_logs(short_logs), by_hand = check_made(), rings = check_rings();
+    return vectors && logs && by_hand && rings;
+}
+
+/* The file in this room. */
+static reader opened(const char *name, uint8_t *room, size_t most)
+{
+    FILE *in = fopen(name, "rb");
+    if (in == NULL) {
+        perror(name);
+        exit(2);
+    }
+    reader r = {name, room, room + fread(room, 1, most, in), 0};
+    fclose(in);
+    return r;
 }
 
 int main(int argc, char **argv)
 {
-    static uint8_t file[1 << 20];
-    if (argc != 2)
-        return fputs("usage: c_check base.bin\n", stderr), 2;
-    FILE *in = fopen(argv[1], "rb");
-    if (in == NULL)
-        return perror(argv[1]), 2;
-    size_t size = fread(file, 1, sizeof file, in);
-    fclose(in);
-    int ok = check("c_engine", c_run, file, size);
-    ok &= check("c_flags", flags_run, file, size);
+    static uint8_t room[2][1 << 20];
+    if (argc != 3)
+        return fputs("usage: c_check base.bin short-logs.bin\n", stderr), 2;
+    reader base = opened(argv[1], room[0], sizeof room[0]), short_logs = opened(argv[2], room[1], sizeof room[1]);
+    int ok = check("c_engine", c_run, base, short_logs);
+    ok &= check("c_flags", flags_run, base, short_logs);
     return ok ? 0 : 1;
 }

@@ -1,6 +1,7 @@
-/* once FUNCTION [WHAT]: one call on the table on standard input, for count.sh to count. fly_sheet prints the sheet; an engine (fly_run,
- * c_run, flags_run) takes a budget as WHAT, and its answer and log are printed, a number on each line. WHAT may be `judge`: then no
- * scratch is lent, and an accepted table is refused by 8 once it is judged, and none is cleared. Any other refusal is an error. */
+/* once FUNCTION [WHAT [WORDS]]: one call on the table on standard input, for count.sh to count. fly_sheet prints the sheet; an engine
+ * (fly_run, c_run, flags_run) takes a budget as WHAT, and its answer and log are printed, a number on each line. WORDS of log are lent, or
+ * enough for every table. WHAT may be `judge`: then no scratch is lent, and an accepted table is refused by 8 once it is judged, and none
+ * is cleared. Any other refusal is an error. */
 #include "c_engine.h"
 #include "c_flags.h"
 
@@ -27,11 +28,12 @@ int main(int argc, char **argv)
         fwrite(sheet, 1, fly_sheet(table, len, sheet), stdout);
         return 0;
     }
-    engine *run = argc == 3 ? named(argv[1]) : NULL;
-    if (run == NULL)
-        return fprintf(stderr, "usage: once fly_sheet | once fly_run|c_run|flags_run BUDGET|judge\n"), 2;
+    engine *run = argc == 3 || argc == 4 ? named(argv[1]) : NULL;
+    size_t words = argc == 4 ? strtoul(argv[3], NULL, 10) : FLY_LOG;
+    if (run == NULL || words > FLY_LOG)
+        return fprintf(stderr, "usage: once fly_sheet | once fly_run|c_run|flags_run BUDGET|judge [WORDS, at most %d]\n", FLY_LOG), 2;
     int judging = strcmp(argv[2], "judge") == 0;
-    fly_answer got = run(table, len, (uint32_t)strtoul(argv[2], NULL, 10), log, FLY_LOG, scratch, judging ? 0 : FLY_SCRATCH);
+    fly_answer got = run(table, len, (uint32_t)strtoul(argv[2], NULL, 10), log, words, scratch, judging ? 0 : FLY_SCRATCH);
     if (got.refused != (judging ? 8 : 0))
         return fprintf(stderr, "once: %s %s: refused by %u\n", argv[1], argv[2], (unsigned)got.refused), 1;
     printf("finished %u lines %u worked %u spent %u\n", (unsigned)got.finished, (unsigned)got.lines, (unsigned)got.worked,

@@ -15,12 +15,17 @@
  * every table, or 4A, for a table of A atoms. A sheet's buffer has FLY_SHEET bytes. Longer ones serve as well; words and bytes past
  * what is used are left alone. A length is a count of elements: of words for log and scratch, of bytes for a table.
  *
+ * A short log, of fewer than 4A words, serves too if it has a word for each line that the run writes under its budget; else the call is
+ * refused with FLY_SHORT_LOG. That is known at the end of the run alone, so the run is made in memory on the stack, and its lines are
+ * copied if they fit; if they do not, the caller's buffers stay as they were. A log that serves a budget serves every smaller one, and
+ * perhaps no larger one. Under a budget below A+F+N+B+P no line is written, and a log of no words serves.
+ *
  * What a caller owes. Pointers are not NULL, even where a length is 0; each buffer has the length that is passed; buffers overlap neither
  * each other nor the table. Nothing else: what is wrong with a table or with a length is answered by a number (fly_refusal).
  *
  * Threads and stack. The functions keep no state between calls, allocate nothing, and call nothing of the C library but memcpy and
- * memset. Any number of threads may call them, each with its own buffers; a table is only read and may be shared. A call takes at most
- * FLY_RUN_STACK or FLY_SHEET_STACK bytes of stack.
+ * memset. Any number of threads may call them, each with its own buffers; a table is only read and may be shared. A run takes at most
+ * FLY_RUN_STACK bytes of stack, one with a short log FLY_SHORT_LOG_STACK, and a sheet FLY_SHEET_STACK.
  *
  * The budget. A run spends at most its budget, and takes time in proportion to what it spends (docs/PERFORMANCE.md), after judging the
  * table, which takes time in proportion to the table. With a budget below A+F+N+B+P nothing is written. 5A+F+N+3B+3P finishes, and
@@ -53,6 +58,7 @@ extern "C" {
 
 /* bytes of stack, measured and rounded up (tests/console/promises.c) */
 #define FLY_RUN_STACK 8192
+#define FLY_SHORT_LOG_STACK 81920
 #define FLY_SHEET_STACK 98304
 
 /* a line, taken apart */
@@ -78,7 +84,7 @@ enum fly_refusal {
     FLY_UNSORTED = 6,      /* facts, entries or pairs do not rise strictly */
     FLY_CYCLIC = 7,        /* the pairs lead from some rule back to itself */
     FLY_SHORT_SCRATCH = 8, /* the scratch has fewer than FLY_SCRATCH words */
-    FLY_SHORT_LOG = 9      /* the log has fewer than 4A words */
+    FLY_SHORT_LOG = 9      /* the run writes more lines than the log has words */
 };
 
 /* refused: 0, or the number of the refusal; then the other four are 0, and log and scratch are as they were. Else finished is 1 if

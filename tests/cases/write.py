@@ -18,6 +18,7 @@ CASE_1 = '2 1 2 1 1 | 0 1 1 0 0 | 0 2 3 0 1'
 EMPTY = '0 0 0 0 0'
 ATOMS_512 = '512 0 0 0 0'
 CIRCLE = '1 0 1 0 1 | 1 0 | 0 0'
+LOOP = '1 0 1 1 0 | 1 0 | 0 0'
 
 # The arrays of large tables. Facts 0, 1, 2, ..; rules of every kind with heads below 8; entries, 8 for each of the first rules; pairs,
 # in which each of the first rules is over the 4 rules after it.
@@ -40,6 +41,10 @@ def refused(number):
 STOPPED = 0, 0, 0, 0, 0, ''
 FINISHED = 0, 1, 0, 0, 0, ''
 CASE_1_FINISHED = 0, 1, 8, 8, 17, '0 5 9 13 2 7 10 15'
+CASE_1_STOPPED = 0, 0, 6, 4, 11, '0 5 9 13 2 7'
+LOOP_FINISHED = 0, 1, 3, 3, 6, '1 5 7'
+LOOP_OPENED = 0, 0, 2, 0, 3, '1 5'
+ATOMS_512_OPENED = 0, 0, 1024, 0, 512, ' '.join(str(4 * q + 1) for q in range(1024))
 
 # What it is, the table, and what a run gives with budget 0 and buffers that are long enough. A fourth word says how many bytes of the
 # table there are, where it is not all of them (a byte past its words is 0).
@@ -112,21 +117,32 @@ RUNS = [
     ('the scratch at its limit', CASE_1, 19, LOG, 32768, CASE_1_FINISHED),
     ('a word of scratch more', CASE_1, 19, LOG, 32769, CASE_1_FINISHED),
     ('a word too few for no atoms', EMPTY, 0, LOG, 32767, refused(8)),
-    # 9: the log below 4A words, which is 8 for case 1.
+    # 9: more lines come than the log has words. Under budget 19 case 1 writes 8 lines, which is 4A; under 13 it writes 6, and works 4.
     ('no log', CASE_1, 19, 0, SCRATCH, refused(9)),
-    ('a word of log too few', CASE_1, 19, 7, SCRATCH, refused(9)),
-    ('the log at its limit', CASE_1, 19, 8, SCRATCH, CASE_1_FINISHED),
-    ('a word of log more', CASE_1, 19, 9, SCRATCH, CASE_1_FINISHED),
+    ('4A-1 words for 4A lines', CASE_1, 19, 7, SCRATCH, refused(9)),
+    ('4A words for 4A lines', CASE_1, 19, 8, SCRATCH, CASE_1_FINISHED),
+    ('a word more', CASE_1, 19, 9, SCRATCH, CASE_1_FINISHED),
     ('both at their limits', CASE_1, 19, 8, 32768, CASE_1_FINISHED),
-    ('a word of log too few for 512 atoms', ATOMS_512, 511, 2047, SCRATCH, refused(9)),
-    ('the log at its limit for 512 atoms', ATOMS_512, 511, 2048, SCRATCH, STOPPED),
-    # The lowest number is given, and a budget that is too small comes after all of them.
+    ('4A-1 words for 6 lines', CASE_1, 13, 7, SCRATCH, CASE_1_STOPPED),
+    ('6 words for 6 lines', CASE_1, 13, 6, SCRATCH, CASE_1_STOPPED),
+    ('5 words for 6 lines', CASE_1, 13, 5, SCRATCH, refused(9)),
+    ('as many words as lines are worked', CASE_1, 13, 4, SCRATCH, refused(9)),
+    ('3 words for 3 lines', LOOP, 9, 3, SCRATCH, LOOP_FINISHED),
+    ('2 words for 3 lines', LOOP, 9, 2, SCRATCH, refused(9)),
+    ('2 words for 2 lines', LOOP, 3, 2, SCRATCH, LOOP_OPENED),
+    ('1 word for 2 lines', LOOP, 3, 1, SCRATCH, refused(9)),
+    ('no log for no line', LOOP, 2, 0, SCRATCH, STOPPED),
+    ('a word of log too few for 512 atoms', ATOMS_512, 2560, 2047, SCRATCH, refused(9)),
+    ('1,024 words for 1,024 lines', ATOMS_512, 512, 1024, SCRATCH, ATOMS_512_OPENED),
+    ('1,023 words for 1,024 lines', ATOMS_512, 512, 1023, SCRATCH, refused(9)),
+    ('512 atoms, and a budget below the size', ATOMS_512, 511, 0, SCRATCH, STOPPED),
+    # The lowest number is given, and a budget below the size comes after 8; under it no log is too short.
     ('both too short', CASE_1, 19, 7, 32767, refused(8)),
     ('a circle, and the scratch too short', CIRCLE, 19, LOG, 32767, refused(7)),
     ('a circle, and the log too short', CIRCLE, 19, 3, SCRATCH, refused(7)),
     ('nothing at all', '', 19, 0, 0, refused(1)),
     ('the scratch and the budget too small', CASE_1, 6, LOG, 32767, refused(8)),
-    ('the log and the budget too small', CASE_1, 6, 7, SCRATCH, refused(9)),
+    ('no log, and the budget too small', CASE_1, 6, 0, SCRATCH, STOPPED),
     # Accepted, with nothing to write: the scratch is cleared all the same.
     ('no atoms, and no log', EMPTY, 0, 0, SCRATCH, FINISHED),
     ('and the scratch at its limit', EMPTY, 0, 0, 32768, FINISHED),

@@ -1,5 +1,5 @@
 //! Compares the engine in libconsole.a, called from outside as a console written in C calls it, with a slow engine written from
-//! document 01 alone (slow.rs), on seeded tables (tables.rs).
+//! documents 01 and 02 alone (slow.rs), on seeded tables (tables.rs).
 //!
 //!     rustc -O --edition 2021 tests/console/compare.rs -L native=. -l static=console -o compare
 //!     ./compare [SEED [CALLS]] [--vectors DIR] [--mutant K]
@@ -7,11 +7,12 @@
 //!
 //! For every call of fly_run: the five numbers of the answer, every word of the log's and the scratch's buffers (which reach past the
 //! lent part on both sides and hold noise before the call), and the table. For every call of fly_sheet: the length, the text, zeros
-//! past it, the bytes around the buffer, and the table. The first mismatch is printed and ends the program with status 1: where the table
-//! comes from and what differs first (records, words, bytes and lines are counted from 0). Each of the answers must also have come often
-//! enough, unless fewer CALLS than the default are asked for.
+//! past it, the bytes around the buffer, and the table. The lengths lent are around the limits: of the log the lines that the run writes
+//! under its budget, and 4A. The first mismatch is printed and ends the program with status 1: where the table comes from and what differs
+//! first (records, words, bytes and lines are counted from 0). Each of the answers must also have come often enough, and so must lines in
+//! a log below 4A words (a short log), and short logs that a larger budget outgrows, unless fewer CALLS than the default are asked for.
 //!
-//! --vectors DIR: base.bin and sheets-S1.bin there, against both engines, before the CALLS.
+//! --vectors DIR: base.bin, sheets-S1.bin and short-logs.bin there, against both engines, before the CALLS.
 //! --mutant K: the test's own test, of fewer CALLS. A deliberate fault in the slow engine or in what is expected of the buffers, which
 //! must end in a mismatch.
 //! --mutants: the number and the fault of each, a line for each K.
@@ -19,7 +20,7 @@
 mod slow;
 mod tables;
 
-use slow::{mutant, Answer, SCRATCH};
+use slow::{mutant, Answer, Run, SCRATCH};
 use std::fmt::Debug;
 use std::ops::Range;
 use std::sync::atomic::Ordering::Relaxed;
@@ -40,7 +41,7 @@ extern "C" {
 
 const SEED: u64 = 20_260;
 const CALLS: u64 = 600_000;
-const MUTANT_CALLS: u64 = 14_000; // the mutant that is caught last needs 13,689
+const MUTANT_CALLS: u64 = 14_400; // the mutant that is caught last needs 14,049
 const SHEET: usize = 5_041;
 const GUARD: usize = 32; // the most words of a buffer before the lent part, and the least past it
 const LOG_MOST: usize = 4_096; // the longest log lent
@@ -68,6 +69,13 @@ const MUTANTS: &[&str] = &[
     "go before clash",
     "the sheet's buffer is left past the text",
     "equal neighbours are in order",
+    "9 for a log below 4A words",
+    "9 by the number worked",
+    "9 by the lines of a run to its finish",
+    "scratch becomes 0 with 9",
+    "the lines that fit are written with 9",
+    "scratch is left as it was with a log below 4A words",
+    "a log below 4A words lacks the last line",
 ];
 
 struct Bench {
@@ -86,7 +94,19 @@ struct Bench {
     refused: [u64; 10],
     stopped: u64,
     finished: u64,
+    short: u64,    // accepted, with lines in a log below 4A words
+    outgrown: u64, // lengths of log that held the lines under one budget, and were too short under a larger one
     sheets: u64,
+}
+
+/// The words of a full log, 4A, or nearly all that can be lent.
+fn full_log(t: &[u8]) -> usize {
+    let full = if t.len() < 2 { 0 } else { 4 * u16::from_le_bytes([t[0], t[1]]) as usize };
+    full.min(LOG_MOST - 64)
+}
+
+fn less_one(n: usize) -> usize {
+    n.saturating_sub(1)
 }
 
 fn hex(bytes: &[u8]) -> String {
@@ -148,6 +168,8 @@ impl Bench {
             refused: [0; 10],
             stopped: 0,
             finished: 0,
+            short: 0,
+            outgrown: 0,
             sheets: 0,
         }
     }
@@ -187,15 +209,22 @@ impl Bench {
     }
 
     /// "Log words past the lines are untouched; on every accepted call the first 32,768 scratch words are 0 and the rest untouched."
-    /// A refusal "writes nothing".
-    fn expect(&mut self, answer: &Answer, lines: &[u16], log: &Range<usize>, scratch: &Range<usize>) {
-        if answer.refused != 0 {
-            return;
-        }
+    /// A refusal "writes nothing"; with 9, "log and scratch untouched". `short`: the log is below 4A words.
+    fn expect(&mut self, answer: &Answer, lines: &[u16], short: bool, log: &Range<usize>, scratch: &Range<usize>) {
         let (log, scratch) = (&mut self.log_expected[log.clone()], &mut self.scratch_expected[scratch.clone()]);
         let n = lines.len().min(log.len());
+        if answer.refused != 0 {
+            if mutant(24) && answer.refused == 9 {
+                scratch[..SCRATCH].fill(0);
+            }
+            if mutant(25) && answer.refused == 9 {
+                log[..n].copy_from_slice(&lines[..n]);
+            }
+            return;
+        }
+        let n = if mutant(27) && short { less_one(n) } else { n };
         log[..n].copy_from_slice(&lines[..n]);
-        if !(mutant(16) && answer.spent == 0) {
+        if !(mutant(16) && answer.spent == 0 || mutant(26) && short) {
             scratch[..SCRATCH].fill(0);
         }
         if mutant(17) && n < log.len() {
@@ -206,20 +235,21 @@ impl Bench {
         }
     }
 
-    fn count(&mut self, answer: &Answer) {
+    fn count(&mut self, answer: &Answer, short: bool) {
         match (answer.refused, answer.finished) {
             (0, 0) => self.stopped += 1,
             (0, _) => self.finished += 1,
             (number, _) => self.refused[number as usize] += 1,
         }
+        self.short += (answer.lines != 0 && short) as u64;
     }
 
-    /// One call of fly_run and all that is compared for it.
-    fn run(&mut self, t: &[u8], budget: u32, log_len: usize, scratch_len: usize) -> Answer {
+    /// One call of fly_run and all that is compared for it; the run is the slow engine's.
+    fn call(&mut self, t: &[u8], budget: u32, run: &Run, log_len: usize, scratch_len: usize) -> Answer {
         if self.calls == self.last {
             self.end();
         }
-        let (expected, lines) = slow::run(t, budget, log_len, scratch_len);
+        let (expected, short) = (slow::call(t, run, log_len, scratch_len), log_len < full_log(t));
         let at = self.lend_table(t);
         let (log_lent, scratch_lent) = self.lend_buffers(log_len, scratch_len);
         let (log, scratch) = (&mut self.log[log_lent.clone()], &mut self.scratch[scratch_lent.clone()]);
@@ -229,17 +259,17 @@ impl Bench {
         self.calls += 1;
         self.lines.clear();
         self.lines.extend_from_slice(&log[..(answer.lines as usize).min(log_len)]);
-        self.expect(&expected, &lines, &log_lent, &scratch_lent);
+        self.expect(&expected, &run.1, short, &log_lent, &scratch_lent);
         let difference = numbers_differ(&answer, &expected)
             .or_else(|| elements_differ("log word", &self.log, &self.log_expected, log_lent.start))
             .or_else(|| elements_differ("scratch word", &self.scratch, &self.scratch_expected, scratch_lent.start))
             .or_else(|| self.table_altered(at, t));
         if let Some(what) = difference {
             let call = format!("call {} budget {budget} log_len {log_len} scratch_len {scratch_len}", self.calls);
-            let logs = format!("archive log {:?}\nslow    log {lines:?}", self.lines);
+            let logs = format!("archive log {:?}\nslow    log {:?}", self.lines, run.1);
             self.mismatch(&what, t, format!("{call}\narchive {answer:?}\nslow    {expected:?}\n{logs}"));
         }
-        self.count(&expected);
+        self.count(&expected, short);
         answer
     }
 
@@ -270,15 +300,26 @@ impl Bench {
         }
     }
 
-    /// A lent length of the log: long enough, or around 4A.
-    fn log_len(&mut self, t: &[u8], enough: bool) -> usize {
-        let need = if t.len() < 2 { 0 } else { 4 * u16::from_le_bytes([t[0], t[1]]) as usize };
-        let need = need.min(LOG_MOST - 64);
-        let more = need + self.rng.below(64);
-        if enough || self.rng.chance(3, 4) {
-            self.rng.pick(&[need, need, need + 1, more, LOG_MOST])
+    /// A lent length of the log that is enough for every run of the table.
+    fn full_len(&mut self, t: &[u8]) -> usize {
+        let full = full_log(t);
+        let more = full + self.rng.below(64);
+        self.rng.pick(&[full, full, full + 1, more, LOG_MOST])
+    }
+
+    /// A lent length of the log: enough for every run, or around what this run writes and works, and around 4A.
+    fn log_len(&mut self, t: &[u8], answer: &Answer) -> usize {
+        if self.rng.chance(1, 2) {
+            return self.full_len(t);
+        }
+        let (lines, worked, full) = (answer.lines as usize, answer.worked as usize, full_log(t));
+        let between = self.rng.within(lines.min(full), full);
+        let around_lines = [less_one(worked), worked, less_one(lines), less_one(lines), lines, lines, lines + 1, between];
+        let around_full = [0, 1, less_one(full), full, full + 1, LOG_MOST];
+        if self.rng.chance(2, 3) {
+            self.rng.pick(&around_lines)
         } else {
-            self.rng.pick(&[0, 1, need.saturating_sub(1), need.saturating_sub(1), need, need + 1, need / 2, LOG_MOST])
+            self.rng.pick(&around_full)
         }
     }
 
@@ -295,14 +336,15 @@ impl Bench {
 
     /// A call with random lengths.
     fn any(&mut self, t: &[u8], budget: u32) -> Answer {
-        let (log_len, scratch_len) = (self.log_len(t, false), self.scratch_len(false));
-        self.run(t, budget, log_len, scratch_len)
+        let run = slow::run(t, budget);
+        let (log_len, scratch_len) = (self.log_len(t, &run.0), self.scratch_len(false));
+        self.call(t, budget, &run, log_len, scratch_len)
     }
 
     /// A call whose buffers suffice.
     fn enough(&mut self, t: &[u8], budget: u32) -> Answer {
-        let (log_len, scratch_len) = (self.log_len(t, true), self.scratch_len(true));
-        self.run(t, budget, log_len, scratch_len)
+        let (log_len, scratch_len) = (self.full_len(t), self.scratch_len(true));
+        self.call(t, budget, &slow::run(t, budget), log_len, scratch_len)
     }
 
     /// Bytes of a legal table.
@@ -329,42 +371,64 @@ impl Bench {
         }
     }
 
-    /// All budgets from 0 to past the bound; each log is a beginning of the next.
-    fn sweep(&mut self, t: &[u8]) {
-        let (bound, _) = slow::bound_and_size(t);
+    /// One length of log under rising budgets, until it is too short and from then on. Beside each call another whose log is enough;
+    /// each of these logs is a beginning of the next.
+    fn rising(&mut self, t: &[u8], log_len: usize, budgets: impl IntoIterator<Item = u32>) {
         let mut before: Vec<u16> = vec![];
-        for budget in 0..=bound + 2 {
-            self.enough(t, budget);
+        let (mut served, mut outgrown) = (false, false);
+        for budget in budgets {
+            let run = slow::run(t, budget);
+            let scratch_len = self.scratch_len(true);
+            let answer = self.call(t, budget, &run, log_len, scratch_len);
+            served |= answer.lines != 0;
+            outgrown |= served && answer.refused == 9;
+            let (log_len, scratch_len) = (self.full_len(t), self.scratch_len(true));
+            self.call(t, budget, &run, log_len, scratch_len);
             if !self.lines.starts_with(&before) {
                 let logs = format!("budget {budget}: {before:?} then {:?}", self.lines);
                 self.mismatch("a log is no beginning of the next", t, logs);
             }
             before.clone_from(&self.lines);
         }
+        self.outgrown += outgrown as u64;
+    }
+
+    /// All budgets from 0 to past the bound, in a log that just holds the lines of one of them, or lacks a word for that.
+    fn sweep(&mut self, t: &[u8]) {
+        let (bound, size) = slow::bound_and_size(t);
+        let held = self.rng.within(size as usize, bound as usize) as u32;
+        let lines = slow::run(t, held).1.len();
+        let log_len = self.rng.pick(&[lines, less_one(lines)]);
+        self.rising(t, log_len, 0..=bound + 2);
     }
 
     /// Every lent length around its limit, in all combinations.
     fn lengths(&mut self, t: &[u8], budget: u32) {
-        let need = 4 * u16::from_le_bytes([t[0], t[1]]) as usize;
-        for log_len in [0, 1, need.saturating_sub(1), need, need + 1, need + 40, LOG_MOST] {
+        let run = slow::run(t, budget);
+        let (lines, worked, full) = (run.0.lines as usize, run.0.worked as usize, full_log(t));
+        for log_len in [0, 1, worked, less_one(lines), lines, lines + 1, less_one(full), full, full + 1, full + 40, LOG_MOST] {
             for scratch_len in [0, 1, SCRATCH - 1, SCRATCH, SCRATCH + 1, SCRATCH + 40, SCRATCH_MOST] {
-                self.run(t, budget, log_len, scratch_len);
+                self.call(t, budget, &run, log_len, scratch_len);
             }
         }
     }
 
     /// A large legal table under no budget, the budget that just fits, one less, and some between.
     fn great(&mut self, t: &[u8], between: usize) {
-        let all = self.enough(t, u32::MAX);
+        let all = slow::run(t, u32::MAX);
+        let (lines, spent) = (all.0.lines as usize, all.0.spent);
+        for log_len in [self.full_len(t), lines, less_one(lines), self.log_len(t, &all.0)] {
+            let scratch_len = self.scratch_len(false);
+            self.call(t, u32::MAX, &all, log_len, scratch_len);
+        }
         let (_, size) = slow::bound_and_size(t);
-        let mut budgets = vec![all.spent, all.spent.saturating_sub(1), size, size.saturating_sub(1)];
+        let mut budgets = vec![spent, spent.saturating_sub(1), size, size.saturating_sub(1)];
         for _ in 0..between {
-            budgets.push(size + self.rng.below((all.spent - size) as usize + 1) as u32);
+            budgets.push(self.rng.within(size as usize, spent as usize) as u32);
         }
-        for budget in budgets {
-            self.enough(t, budget);
-        }
-        self.any(t, u32::MAX);
+        budgets.sort();
+        let log_len = self.rng.within(lines / 2, lines);
+        self.rising(t, log_len, budgets);
         self.sheet(t);
     }
 
@@ -462,8 +526,10 @@ impl Bench {
         self.place = "lengths lent".to_string();
         let case_1 = case_1();
         self.lengths(&case_1, u32::MAX);
+        self.lengths(&case_1, 16);
         self.lengths(&case_1, 13);
         self.lengths(&case_1, 0);
+        self.lengths(&itself(), u32::MAX);
         self.lengths(&[0; 10], 0);
         self.lengths(&tables::sized(0, 512), u32::MAX);
         self.lengths(&[0; 9], 0);
@@ -582,14 +648,18 @@ impl Bench {
         }
     }
 
-    /// What the slow engine must give. A mutant is left to the archive to catch.
-    fn slow_gives(&self, t: &[u8], budget: u32, wanted: &(Answer, Vec<u16>)) {
-        let came = slow::run(t, budget, LOG_MOST, SCRATCH);
+    /// A call that must give this, against both engines. A mutant is left to the archive to catch.
+    fn gives(&mut self, t: &[u8], budget: u32, log_len: usize, scratch_len: usize, wanted: &Run) {
+        let run = slow::run(t, budget);
+        let came = slow::call(t, &run, log_len, scratch_len);
+        let lines = &run.1[..came.lines as usize];
         let difference =
-            numbers_differ(&came.0, &wanted.0).or_else(|| elements_differ("log word", &came.1, &wanted.1, 0)).filter(|_| mutant(0));
+            numbers_differ(&came, &wanted.0).or_else(|| elements_differ("log word", lines, &wanted.1, 0)).filter(|_| mutant(0));
         if let Some(what) = difference {
-            self.mismatch(&format!("slow engine: {what}"), t, format!("budget {budget}\nslow   {came:?}\nwanted {wanted:?}"));
+            let call = format!("budget {budget} log_len {log_len} scratch_len {scratch_len}");
+            self.mismatch(&format!("slow engine: {what}"), t, format!("{call}\nslow   {came:?} {lines:?}\nwanted {wanted:?}"));
         }
+        self.call(t, budget, &run, log_len, scratch_len);
     }
 
     /// What the slow engine must print.
@@ -600,17 +670,19 @@ impl Bench {
         }
     }
 
-    /// The cases of document 01, against both engines.
+    /// The cases of document 01, and those of short logs, against both engines.
     fn cases(&mut self) {
-        for (name, t, budget, [refused, finished, lines, worked, spent], log) in cases() {
+        for (name, t, budget, numbers, log) in cases() {
             self.place = format!("document 01: {name}");
-            let answer = Answer { refused, finished, lines, worked, spent };
-            self.slow_gives(&t, budget, &(answer, log.to_vec()));
-            self.enough(&t, budget);
+            let (log_len, scratch_len) = (self.full_len(&t), self.scratch_len(true));
+            self.gives(&t, budget, log_len, scratch_len, &(answer(numbers), log.to_vec()));
         }
-        self.place = "document 01: 512 atoms, and a log of 4A-1 words".to_string();
+        self.place = "document 01: 512 atoms".to_string();
         assert_eq!(self.enough(&tables::sized(0, 512), u32::MAX).refused, 0);
-        assert_eq!(self.run(&case_1(), 19, 7, SCRATCH).refused, 9);
+        for (name, t, budget, log_len, numbers, log) in short_logs() {
+            self.place = format!("document 02, S-2: {name}");
+            self.gives(&t, budget, log_len, SCRATCH, &(answer(numbers), log.to_vec()));
+        }
         for (name, t, text) in sheets() {
             self.place = format!("document 01: {name}");
             self.slow_prints(&t, text);
@@ -625,8 +697,21 @@ impl Bench {
             self.place = r.place();
             let (budget, answer) = (r.long(), r.answer());
             let log = (0..answer.lines).map(|_| r.word()).collect();
-            self.slow_gives(&t, budget, &(answer, log));
-            self.run(&t, budget, LOG_MOST, SCRATCH);
+            self.gives(&t, budget, LOG_MOST, SCRATCH, &(answer, log));
+            r.record += 1;
+        }
+        r.end();
+    }
+
+    /// short-logs.bin, against both engines.
+    fn short_log_vectors(&mut self, dir: &str) {
+        let mut r = Reader::open(dir, "short-logs.bin");
+        while r.at < r.bytes.len() {
+            self.place = r.place();
+            let t = r.field();
+            let [budget, log_len, scratch_len] = [(); 3].map(|_| r.number());
+            let wanted = (answer([(); 5].map(|_| r.number())), r.words());
+            self.gives(&t, budget, log_len as usize, scratch_len as usize, &wanted);
             r.record += 1;
         }
         r.end();
@@ -653,19 +738,26 @@ impl Bench {
         }
         println!("stopped {}", self.stopped);
         println!("finished {}", self.finished);
+        println!("short logs accepted {}", self.short);
+        println!("short logs outgrown {}", self.outgrown);
         println!("sheets {}", self.sheets);
         println!("mismatches 0");
         let often = self.refused[1..].iter().all(|&n| n >= 500)
-            && self.stopped >= 10_000
-            && self.finished >= 10_000
+            && [self.stopped, self.finished, self.refused[9], self.short].iter().all(|&n| n >= 10_000)
+            && self.outgrown >= 1_000
             && self.calls >= 200_000
             && self.sheets >= 20_000;
         if self.last >= CALLS && !often {
-            println!("FAILED: an answer came too seldom (refusals 500, stopped and finished 10,000, calls 200,000, sheets 20,000)");
+            println!("FAILED: an answer came too seldom (refusals 500; 9, stopped, finished and short logs accepted 10,000;");
+            println!("short logs outgrown 1,000; calls 200,000; sheets 20,000)");
             std::process::exit(1);
         }
         std::process::exit(0)
     }
+}
+
+fn answer([refused, finished, lines, worked, spent]: [u32; 5]) -> Answer {
+    Answer { refused, finished, lines, worked, spent }
 }
 
 /// "Case 1: sizes 2,1,2,1,1; left 0,1,1,0,0; right 0,2,3,0,1 (30 bytes)."
@@ -732,6 +824,27 @@ fn cases() -> Vec<Case> {
         ("nine bytes", vec![1; 9], 0, [1, 0, 0, 0, 0], &[]),
         ("513 atoms", tables::sized(0, 513), 9_999, [2, 0, 0, 0, 0], &[]),
         ("a strange fact and a rule of kind 3", table(1, &[2], &[(3, 0, &[])], &[]), 100, [4, 0, 0, 0, 0], &[]),
+    ]
+}
+
+/// What it is, the table, the budget, the words of log, the five numbers and the log.
+type ShortLog = (&'static str, Vec<u8>, u32, usize, [u32; 5], &'static [u16]);
+
+fn short_logs() -> Vec<ShortLog> {
+    let (one, own): (&[u16], &[u16]) = (&[0, 5, 9, 13, 2, 7], &[1, 5, 7]);
+    let nine = [9, 0, 0, 0, 0];
+    vec![
+        ("case 1, 7 words for 8 lines", case_1(), 19, 7, nine, &[]),
+        ("case 1, 7 words for 8 lines of which 7 are worked", case_1(), 16, 7, nine, &[]),
+        ("case 1, 7 words for 6 lines", case_1(), 13, 7, [0, 0, 6, 4, 11], one),
+        ("case 1, 6 words for 6 lines", case_1(), 13, 6, [0, 0, 6, 4, 11], one),
+        ("case 1, 5 words for 6 lines", case_1(), 13, 5, nine, &[]),
+        ("case 1, no words for no lines", case_1(), 6, 0, [0; 5], &[]),
+        ("a rule from a literal to itself, 3 words for 3 lines", itself(), u32::MAX, 3, [0, 1, 3, 3, 6], own),
+        ("a rule from a literal to itself, 2 words for 3 lines", itself(), u32::MAX, 2, nine, &[]),
+        ("a rule from a literal to itself, 2 words for 2 lines", itself(), 3, 2, [0, 0, 2, 0, 3], &own[..2]),
+        ("a rule from a literal to itself, 1 word for 2 lines", itself(), 3, 1, nine, &[]),
+        ("a rule from a literal to itself, no words for no lines", itself(), 2, 0, [0; 5], &[]),
     ]
 }
 
@@ -819,7 +932,20 @@ impl Reader {
         self.bytes(count as usize)
     }
 
-    /// An answer: 0 for finished, 255 for stopped, else the refusal's number; then lines, worked and spent.
+    /// A field of four bytes.
+    fn number(&mut self) -> u32 {
+        match self.field().try_into() {
+            Ok(bytes) => u32::from_le_bytes(bytes),
+            Err(_) => give_up(&format!("{}: a number of other than four bytes", self.place())),
+        }
+    }
+
+    /// A field of words.
+    fn words(&mut self) -> Vec<u16> {
+        self.field().chunks(2).map(|w| u16::from_le_bytes([w[0], w[1]])).collect()
+    }
+
+    /// An answer of base.bin: 0 for finished, 255 for stopped, else the refusal's number; then lines, worked and spent.
     fn answer(&mut self) -> Answer {
         let number = self.word() as u32;
         let refused = if number == 255 { 0 } else { number };
@@ -873,6 +999,7 @@ fn main() {
     if let Some(dir) = dir {
         bench.base_vectors(&dir);
         bench.sheet_vectors(&dir);
+        bench.short_log_vectors(&dir);
     }
     bench.last = bench.calls + calls;
     bench.cases();

@@ -1,5 +1,6 @@
-/* The promises of include/flyrules.h, on case 1 and on a table with every size at its limit. The first that is not kept ends the
- * program with status 1 and a line that says which call it was, what differs, what came and what was wanted. */
+/* The promises of include/flyrules.h, on case 1, on a rule from a literal to itself, and on a table with every size at its limit. The
+ * first that is not kept ends the program with status 1 and a line that says which call it was, what differs, what came and what was
+ * wanted. */
 #define _DEFAULT_SOURCE
 #include "flyrules.h"
 
@@ -22,9 +23,13 @@ typedef struct {
 
 static const uint8_t BYTES_1[30] = {2, 0, 1, 0, 2, 0, 1, 0, 1, 0, 0, 0, 1, 0, 1, 0, 0, 0, 0, 0, 0, 0, 2, 0, 3, 0, 0, 0, 1, 0};
 static const uint16_t LOG_1[8] = {0, 5, 9, 13, 2, 7, 10, 15};
+static const uint8_t ITSELF_BYTES[18] = {1, 0, 0, 0, 1, 0, 1, 0, 0, 0, 1, 0, 0, 0, 0, 0, 0, 0};
+static const uint16_t ITSELF_LOG[3] = {1, 5, 7};
 static const uint8_t CIRCLE_BYTES[18] = {1, 0, 0, 0, 1, 0, 0, 0, 1, 0, 1, 0, 0, 0, 0, 0, 0, 0};
 
 static const table CASE_1 = {"case 1", BYTES_1, sizeof BYTES_1, LOG_1, "atoms 2\n0 go\n1 go\nspent 17 of 19\n"};
+static const table ITSELF = {"a rule from a literal to itself", ITSELF_BYTES, sizeof ITSELF_BYTES, ITSELF_LOG,
+                             "atoms 1\n0 open\nspent 6 of 9\n"};
 static const table NOTHING = {"no bytes", BYTES_1, 0, NULL, "refused 1\n"};
 static const table STUB = {"nine bytes of case 1", BYTES_1, 9, NULL, "refused 1\n"};
 static const table SHORT = {"case 1 but for a byte", BYTES_1, 29, NULL, "refused 3\n"};
@@ -77,6 +82,10 @@ static void make_log_and_sheet(void) {
     for (int a = 0; a < ATOMS; a++) end += sprintf(end, "%d clash\n", a);
     sprintf(end, "spent 20302 of 23040\n");
 }
+
+/* What the run spends to write those with +Δ, and to write all lines but one: working +Δ of a literal costs 1, and of literals 0 to 7
+ * another 171, for the strict rules that rest on it. */
+enum { OPENING = ATOMS + PLACES, ALL_BUT_ONE = OPENING + FACTS - 1 + 8 * 171 };
 
 /* ---- one call ---- */
 
@@ -181,12 +190,39 @@ static void prints(const table *t) {
     table_left(call, bytes, t);
 }
 
+/* ---- logs below 4A words ---- */
+
+/* The log holds the lines that the run writes under its budget, or is refused. */
+static void short_logs(void) {
+    const fly_answer nine = {FLY_SHORT_LOG, 0, 0, 0, 0};
+    runs(&CASE_1, 19, 7, FLY_SCRATCH, nine);
+    runs(&CASE_1, 19, 0, FLY_SCRATCH, nine);
+    runs(&CASE_1, 16, 7, FLY_SCRATCH, nine); /* 8 lines, 7 of them worked */
+    runs(&CASE_1, 13, 7, FLY_SCRATCH, (fly_answer){0, 0, 6, 4, 11});
+    runs(&CASE_1, 13, 6, FLY_SCRATCH + MORE, (fly_answer){0, 0, 6, 4, 11});
+    runs(&CASE_1, 13, 5, FLY_SCRATCH + MORE, nine);
+    runs(&CASE_1, 13, 5, FLY_SCRATCH - 1, (fly_answer){FLY_SHORT_SCRATCH, 0, 0, 0, 0});
+    runs(&CASE_1, 6, 0, FLY_SCRATCH, (fly_answer){0, 0, 0, 0, 0});
+    runs(&ITSELF, UINT32_MAX, 3, FLY_SCRATCH, (fly_answer){0, 1, 3, 3, 6});
+    runs(&ITSELF, UINT32_MAX, 2, FLY_SCRATCH, nine);
+    runs(&ITSELF, 3, 2, FLY_SCRATCH, (fly_answer){0, 0, 2, 0, 3});
+    runs(&ITSELF, 2, 0, FLY_SCRATCH, (fly_answer){0, 0, 0, 0, 0});
+    runs(&LIMITS, OPENING - 1, 0, FLY_SCRATCH, (fly_answer){0, 0, 0, 0, 0});
+    runs(&LIMITS, OPENING, 1024, FLY_SCRATCH, (fly_answer){0, 0, 1024, 0, OPENING});
+    runs(&LIMITS, OPENING, 1023, FLY_SCRATCH, nine);
+    runs(&LIMITS, ALL_BUT_ONE, FLY_LOG - 1, FLY_SCRATCH, (fly_answer){0, 0, 2047, 1023, ALL_BUT_ONE});
+    runs(&LIMITS, ALL_BUT_ONE + 1, FLY_LOG - 1, FLY_SCRATCH, nine);
+    runs(&LIMITS, FLY_MAX_SPENT, FLY_LOG - 1, FLY_SCRATCH, nine);
+}
+
 /* ---- threads ---- */
 
 static void *again(void *unused) {
     for (int i = 0; i < 200; i++) {
         runs(&CASE_1, 19, 8, FLY_SCRATCH, (fly_answer){0, 1, 8, 8, 17});
         runs(&CASE_1, 13, 9, FLY_SCRATCH + MORE, (fly_answer){0, 0, 6, 4, 11});
+        runs(&CASE_1, 13, 7, FLY_SCRATCH, (fly_answer){0, 0, 6, 4, 11});
+        runs(&CASE_1, 19, 7, FLY_SCRATCH, (fly_answer){FLY_SHORT_LOG, 0, 0, 0, 0});
         prints(&CASE_1);
     }
     return unused;
@@ -206,22 +242,30 @@ enum { STACK = 1 << 20 };
 
 static void *no_call(void *of) { return of; }
 
-static void *run_call(void *of) {
+/* A call, by its table; of a run also the budget, the words of log and the refusal that comes of them. */
+typedef struct {
+    const table *of;
+    uint32_t budget;
+    size_t log_len;
+    uint32_t refused;
+} one_call;
+
+static void *run_call(void *call) {
     static uint16_t log[FLY_LOG], scratch[FLY_SCRATCH];
-    const table *t = of;
-    fly_run(t->bytes, t->n, UINT32_MAX, log, FLY_LOG, scratch, FLY_SCRATCH);
-    return of;
+    const one_call *c = call;
+    CHECK(fly_run(c->of->bytes, c->of->n, c->budget, log, c->log_len, scratch, FLY_SCRATCH).refused == c->refused);
+    return call;
 }
 
-static void *sheet_call(void *of) {
+static void *sheet_call(void *call) {
     static uint8_t out[FLY_SHEET];
-    const table *t = of;
-    fly_sheet(t->bytes, t->n, out);
-    return of;
+    const one_call *c = call;
+    fly_sheet(c->of->bytes, c->of->n, out);
+    return call;
 }
 
 /* The bytes of a painted stack that a thread changed which makes this call. */
-static size_t painted(void *call(void *), table of) {
+static size_t painted(void *make(void *), one_call call) {
     uint8_t *stack;
     pthread_attr_t attributes;
     pthread_t thread;
@@ -229,20 +273,19 @@ static size_t painted(void *call(void *), table of) {
     CHECK(posix_memalign((void **)&stack, 4096, STACK) == 0);
     memset(stack, 0xA5, STACK);
     CHECK(pthread_attr_init(&attributes) == 0 && pthread_attr_setstack(&attributes, stack, STACK) == 0);
-    CHECK(pthread_create(&thread, &attributes, call, &of) == 0 && pthread_join(thread, NULL) == 0);
+    CHECK(pthread_create(&thread, &attributes, make, &call) == 0 && pthread_join(thread, NULL) == 0);
     while (i < STACK && stack[i] == 0xA5) i++;
     free(stack);
     return STACK - i;
 }
 
-/* What a call takes on either table, the larger of the two; neither may take more than was promised. */
-static size_t stack_of(const char *what, void *call(void *), size_t promised) {
-    const table *const tables[] = {&CASE_1, &LIMITS};
+/* What the largest of n calls takes; none may take more than was promised. */
+static size_t stack_of(const char *what, void *make(void *), const one_call *calls, size_t n, size_t promised) {
     size_t most = 0;
-    for (size_t i = 0; i < 2; i++) {
-        size_t bytes = painted(call, *tables[i]) - painted(no_call, *tables[i]);
+    for (size_t i = 0; i < n; i++) {
+        size_t bytes = painted(make, calls[i]) - painted(no_call, calls[i]);
         if (bytes > promised) {
-            fprintf(stderr, "promises: %s of %s: %zu bytes of stack, promised %zu\n", what, tables[i]->name, bytes, promised);
+            fprintf(stderr, "promises: %s of %s: %zu bytes of stack, promised %zu\n", what, calls[i].of->name, bytes, promised);
             exit(1);
         }
         if (bytes > most) most = bytes;
@@ -251,8 +294,16 @@ static size_t stack_of(const char *what, void *call(void *), size_t promised) {
 }
 
 static void stack_use(void) {
-    size_t run = stack_of("the run", run_call, FLY_RUN_STACK), sheet = stack_of("the sheet", sheet_call, FLY_SHEET_STACK);
-    printf("stack: run %zu bytes, sheet %zu bytes\n", run, sheet);
+    static const one_call FULL[] = {{&CASE_1, UINT32_MAX, FLY_LOG, 0}, {&LIMITS, UINT32_MAX, FLY_LOG, 0}};
+    static const one_call SHORT_LOGS[] = {{&CASE_1, 13, 7, 0},
+                                          {&CASE_1, UINT32_MAX, 7, FLY_SHORT_LOG},
+                                          {&ITSELF, UINT32_MAX, 3, 0},
+                                          {&LIMITS, ALL_BUT_ONE, FLY_LOG - 1, 0},
+                                          {&LIMITS, UINT32_MAX, FLY_LOG - 1, FLY_SHORT_LOG}};
+    size_t run = stack_of("the run", run_call, FULL, 2, FLY_RUN_STACK);
+    size_t short_log = stack_of("the short-log run", run_call, SHORT_LOGS, 5, FLY_SHORT_LOG_STACK);
+    size_t sheet = stack_of("the sheet", sheet_call, FULL, 2, FLY_SHEET_STACK);
+    printf("stack: run %zu bytes, with a short log %zu bytes, sheet %zu bytes\n", run, short_log, sheet);
 }
 #else
 static void stack_use(void) {}
@@ -267,15 +318,15 @@ int main(void) {
     runs(&CASE_1, 13, 8, FLY_SCRATCH, (fly_answer){0, 0, 6, 4, 11});
     runs(&CASE_1, 6, 8, FLY_SCRATCH, (fly_answer){0, 0, 0, 0, 0});
     runs(&CASE_1, UINT32_MAX, 8, FLY_SCRATCH, (fly_answer){0, 1, 8, 8, 17});
-    runs(&CASE_1, 19, 7, FLY_SCRATCH, (fly_answer){FLY_SHORT_LOG, 0, 0, 0, 0});
-    runs(&CASE_1, 19, 0, FLY_SCRATCH, (fly_answer){FLY_SHORT_LOG, 0, 0, 0, 0});
     runs(&CASE_1, 19, 8, FLY_SCRATCH - 1, (fly_answer){FLY_SHORT_SCRATCH, 0, 0, 0, 0});
     runs(&CASE_1, 19, 0, 0, (fly_answer){FLY_SHORT_SCRATCH, 0, 0, 0, 0});
     runs(&LIMITS, FLY_MAX_SPENT, FLY_LOG, FLY_SCRATCH, (fly_answer){0, 1, 2048, 2048, 20302});
+    short_logs();
     refuses(&STUB, FLY_TRUNCATED);
     refuses(&SHORT, FLY_WRONG_LENGTH);
     refuses(&CIRCLE, FLY_CYCLIC);
     prints(&CASE_1);
+    prints(&ITSELF);
     prints(&NOTHING);
     prints(&CIRCLE);
     prints(&LIMITS);

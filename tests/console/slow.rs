@@ -1,5 +1,6 @@
-//! A slow engine, written from document 01 alone, sentence by sentence. The quoted lines are the document's own. What is held is a
-//! `Vec<bool>` indexed by the number of a line, and every inference rule is a direct quantification over rules and antecedents.
+//! A slow engine, written from document 01 and from S-1 and S-2 of document 02, sentence by sentence. The quoted lines are the
+//! documents' own. What is held is a `Vec<bool>` indexed by the number of a line, and every inference rule is a direct quantification
+//! over rules and antecedents.
 
 use std::sync::atomic::{AtomicU32, Ordering::Relaxed};
 
@@ -20,6 +21,9 @@ pub struct Answer {
     pub worked: u32,
     pub spent: u32,
 }
+
+/// An answer, and the lines in the order of the log.
+pub type Run = (Answer, Vec<u16>);
 
 pub const SCRATCH: usize = 32_768;
 
@@ -303,8 +307,8 @@ impl Theory {
         price
     }
 
-    /// "The rule of working, and its price": the answer and the lines in the order of the log.
-    fn work(&self, budget: u32) -> (Answer, Vec<u16>) {
+    /// "The rule of working, and its price"
+    fn work(&self, budget: u32) -> Run {
         let budget = budget as usize;
         // "If Size exceeds it, the answer is stopped with 0 lines, 0 worked, 0 spent."
         if self.size > budget {
@@ -386,26 +390,43 @@ impl Theory {
     }
 }
 
-/// The whole call: refusals 1 to 7, then 8 and 9, then the work. "A refusal returns its number alone".
-pub fn run(bytes: &[u8], budget: u32, log_len: usize, scratch_len: usize) -> (Answer, Vec<u16>) {
-    let refuse = |number: u32| (Answer { refused: number, ..Answer::default() }, vec![]);
-    let number = judge(bytes);
-    if number != 0 {
-        return refuse(number);
+fn refusal(number: u32) -> Answer {
+    Answer { refused: number, ..Answer::default() }
+}
+
+/// The run, whatever is lent: refusals 1 to 7, then the work. "A refusal returns its number alone".
+pub fn run(bytes: &[u8], budget: u32) -> Run {
+    match judge(bytes) {
+        0 => theory(bytes).work(budget),
+        number => (refusal(number), vec![]),
     }
-    let a = word(bytes, 0);
-    if mutant(14) && log_len < 4 * a {
-        return refuse(9);
+}
+
+/// The answer of a call whose run is this one: 8 and 9 come after 1 to 7.
+pub fn call(bytes: &[u8], (answer, lines): &Run, log_len: usize, scratch_len: usize) -> Answer {
+    if answer.refused != 0 {
+        return *answer;
     }
+    // Document 02, S-2: "A log shorter than 4A words is accepted if it holds all lines written by the end of the run under the given
+    // budget. Otherwise 9 is given as before". One of 4A words holds every line that there can be.
+    let needed = if mutant(21) {
+        4 * word(bytes, 0)
+    } else if mutant(22) {
+        answer.worked as usize
+    } else if mutant(23) {
+        theory(bytes).work(u32::MAX).1.len()
+    } else {
+        lines.len()
+    };
+    let too_short = log_len < needed;
     // "8 scratch: lent scratch below 32,768 16-bit words"
-    if scratch_len < SCRATCH {
-        return refuse(8);
+    if scratch_len < SCRATCH && !(mutant(14) && too_short) {
+        return refusal(8);
     }
-    // "9 log: lent log below 4A 16-bit words"
-    if log_len < 4 * a {
-        return refuse(9);
+    if too_short {
+        return refusal(9);
     }
-    theory(bytes).work(budget)
+    *answer
 }
 
 /// "The sheet": "reads standard input (at most 32,779 bytes, a longer input judged on those), runs with budget 5A+F+N+3B+3P, and

@@ -16,7 +16,7 @@ const LIMIT: u32 = 65536;
 // How the records of a file are laid out.
 pub enum Layout {
     Base,
-    Made,
+    Runs,
     Bodies,
     Sheets,
 }
@@ -27,7 +27,7 @@ fn is_same(file: &[u8], layout: Layout, fd: i32, record: u32, n: u32) -> bool {
     let table = stream::front(&buffer, n);
     let d = match layout {
         Layout::Base => records::base_differs(fd, record, table),
-        Layout::Made => records::made_differs(fd, record, table),
+        Layout::Runs => records::fields_differ(fd, record, table),
         Layout::Bodies => records::body_differs(fd, table),
         Layout::Sheets => records::sheet_differs(fd, table),
     };
@@ -64,7 +64,8 @@ fn try_file(file: &[u8], layout: Layout, wide: bool) {
 
 fn main() {
     try_file(b"base.bin", Layout::Base, false);
-    try_file(b"made.bin", Layout::Made, true);
+    try_file(b"made.bin", Layout::Runs, true);
+    try_file(b"short-logs.bin", Layout::Runs, true);
     try_file(b"bodies.bin", Layout::Bodies, true);
     try_file(b"sheets-S1.bin", Layout::Sheets, true);
     try_file(b"longest.bin", Layout::Sheets, true);

@@ -32,8 +32,8 @@ pub fn base_differs(fd: i32, record: u32, table: &[u8]) -> Difference {
     run_differs(fd, record, table, want)
 }
 
-// The fields of a run, and the log.
-pub fn made_differs(fd: i32, record: u32, table: &[u8]) -> Difference {
+// made.bin and short-logs.bin: the fields of a run, and the log.
+pub fn fields_differ(fd: i32, record: u32, table: &[u8]) -> Difference {
     let want = Run {
         budget: number(fd),
         log: number(fd),

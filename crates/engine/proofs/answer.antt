@@ -1,2 +1,3 @@
 -- Laws of answers.
 pub mod Numbering
+pub mod Buffers

@@ -5,12 +5,11 @@ use mathlib.Core.Bool.{cond}
 use mathlib.Core.List.{List, _++_}
 use lib.Dec.{ltb}
 use lib.ListN.{length, drop, replicate}
-use Rattle.logic.specs.Theory.{Theory, size}
+use Rattle.logic.specs.Theory.{size}
 use Rattle.logic.specs.Worklist.{Outcome, logOf, lines, worked, run}
 use Rattle.logic.specs.Plain.{plainSystem, bound}
 use Rattle.logic.specs.Demands.{Demands}
 use Rattle.table.specs.declared.format.Sizes.{Sizes}
-use Rattle.table.specs.declared.judge.Refusal.{Refusal}
 use Rattle.table.specs.declared.judge.Refusal.the-variants.{ShortScratch, ShortLog}
 use Rattle.table.specs.declared.judge.Judgement.{Judgement}
 use Rattle.table.specs.declared.judge.Judgement.the-variants as judgement
@@ -34,15 +33,20 @@ numbersOf (Refused n) = refusalNumbers (refusals.numberOf n)
 numbersOf (Stopped c) = runNumbers 0 c
 numbersOf (Finished c) = runNumbers 1 c
 
--- "lent scratch below 32,768 16-bit words", "lent log below 4A 16-bit words", after 1 to 7
-unfoldable pub withBuffers : Judgement → ℕ → ℕ → Judgement
-withBuffers (judgement.Accepted s) scratch log =
-    cond (ltb scratch 32768) (judgement.Refused ShortScratch) (cond (ltb log (4 * s .atoms)) (judgement.Refused ShortLog) (judgement.Accepted s))
-withBuffers (judgement.Refused n) scratch log = judgement.Refused n
-
 -- the run that a table is given under a budget
 abbrev pub runOf : List ℕ → ℕ → Outcome
 runOf b budget = run (plainSystem (theoryOf b)) budget
+
+-- 8: "lent scratch below 32,768 16-bit words", after 1 to 7. Then 9, where the log does not hold "all lines written by the end of the run
+-- under the given budget" (document 02, S-2).
+unfoldable pub withBuffers : Judgement → Outcome → ℕ → ℕ → Judgement
+withBuffers (judgement.Accepted s) o scratch log =
+    cond (ltb scratch 32768) (judgement.Refused ShortScratch) (cond (ltb log (lines o)) (judgement.Refused ShortLog) (judgement.Accepted s))
+withBuffers (judgement.Refused n) o scratch log = judgement.Refused n
+
+-- the judgement of a call: of its table, then of the words of scratch and of log that are lent
+abbrev pub callJudgement : List ℕ → ℕ → ℕ → ℕ → Judgement
+callJudgement b budget scratch log = withBuffers (refusals.judgementOf b) (runOf b budget) scratch log
 
 abbrev pub countsIn : Outcome → Counts
 countsIn o = record { lines = lines o; worked = worked o; spent = o .spent }
@@ -68,8 +72,8 @@ scratchAfter (judgement.Refused n) scratch = scratch
 -- What a run hands over: the answer's numbers, both buffers whole, and, with the run, demands 2 and 3. The numbers determine the answer
 -- (proofs/answer/Numbering.antt: `one-answer`).
 pub record Ran (b : List ℕ) (budget : ℕ) (log log′ scratch scratch′ : List ℕ) (n : Numbers) : Type 0 where
-  pub answer : n ≡ numbersOf (answerTo (withBuffers (refusals.judgementOf b) (length scratch) (length log)) (runOf b budget))
-  pub written : log′ ≡ logAfter (withBuffers (refusals.judgementOf b) (length scratch) (length log)) (runOf b budget) log
-  pub cleared : scratch′ ≡ scratchAfter (withBuffers (refusals.judgementOf b) (length scratch) (length log)) scratch
+  pub answer : n ≡ numbersOf (answerTo (callJudgement b budget (length scratch) (length log)) (runOf b budget))
+  pub written : log′ ≡ logAfter (callJudgement b budget (length scratch) (length log)) (runOf b budget) log
+  pub cleared : scratch′ ≡ scratchAfter (callJudgement b budget (length scratch) (length log)) scratch
   pub demands : (s : Sizes) → refusals.judgementOf b ≡ judgement.Accepted s
       → Demands (plainSystem (theoryOf b)) (bound (theoryOf b)) (5 * size (theoryOf b)) budget

@@ -6,13 +6,17 @@ use mathlib.Core.List.{List, [], _++_}
 use lib.Dec.{T, eqb}
 use lib.ListN.{length, take, drop}
 use Rattle.logic.specs.Tests.{_or_, isnt, member, distinct, pick}
-use Rattle.logic.specs.Theory.{Theory, isStrict, kindOf}
+use Rattle.logic.specs.Theory.{Theory, isStrict, kindOf, size}
 use Rattle.logic.specs.System.{derivation}
 use Rattle.logic.specs.Worklist.{Outcome, logOf, lines, grow, initial}
 use Rattle.logic.specs.Reading.{heads}
 use Rattle.logic.specs.Plain.{plainSystem}
+use Rattle.table.specs.declared.format.Sizes.{Sizes}
+use Rattle.table.specs.declared.judge.Judgement.the-variants.{Accepted}
+use Rattle.table.specs.Format.{theoryIn}
+use Rattle.table.specs.Refusals.{judgementOf}
 use Rattle.engine.specs.declared.answer.Answer.{Answer}
-use Rattle.memory.specs.Layout.{tagCount}
+use Rattle.memory.specs.Layout.{tagCount, memorySize}
 use Rattle.memory.specs.Memory.{heldOf, writtenOf, Ready}
 use Rattle.memory.specs.Api.{adds, Kept}
 use Rattle.engine.specs.Answers.{answerOf}
@@ -68,6 +72,13 @@ pub record Opened (d : Theory) (mem log mem′ log′ : List ℕ) (n : ℕ) : Ty
   pub size : length log′ ≡ length log
   pub held : (x : ℕ) → heldOf mem′ x ≡ heldOf mem x
   pub kept : Kept mem mem′
+
+-- A run whose start is paid, of an accepted table, and with words enough for its memory.
+pub record Paid (b : List ℕ) (s : Sizes) (budget start : ℕ) (mem : List ℕ) : Type 0 where
+  pub accepted : judgementOf b ≡ Accepted s
+  pub size : start ≡ size (theoryIn b s)
+  pub within : start ≤ budget
+  pub words : memorySize ≤ length mem
 
 -- The run is at its end.
 pub record Worked (o : Outcome) (mem log mem′ log′ : List ℕ) (a : Answer) : Type 0 where

@@ -1,8 +1,8 @@
 // The run of a table under a budget, in buffers that the caller lends. What is refused writes nothing.
 ghost use Prim.Native.Nat.{_+_, _*_, _≤_};
 ghost use mathlib.Core.Path.{_≡_};
-ghost use lib.ListN.{length};
-ghost use Rattle.logic.specs.Theory.{size};
+ghost use mathlib.Core.List.{_++_};
+ghost use lib.ListN.{length, take, drop};
 ghost use Rattle.logic.specs.Worklist.{run};
 ghost use Rattle.logic.specs.Plain.{plainSystem};
 ghost use Rattle.table.specs.declared.judge.Judgement.the-variants.{Accepted};
@@ -10,7 +10,7 @@ ghost use Rattle.table.specs.Format.{theoryIn};
 ghost use Rattle.table.specs.Refusals.{judgementOf};
 ghost use Rattle.engine.specs.declared.answer.Answer.the-variants.{Refused};
 ghost use Rattle.engine.specs.Answers.{numbersOf, Ran};
-ghost use Rattle.engine.specs.Working.{Worked};
+ghost use Rattle.engine.specs.Working.{Paid, Worked};
 use crate::answer::Answer;
 use crate::answer::Counts;
 use crate::work::work;
@@ -41,7 +41,7 @@ fn refuse(why: Refusal, log: &mut [u16], scratch: &mut [u16]) -> Answer
     Answer::Refused(why)
 }
 
-// A run whose start is paid.
+// A run whose start is paid, in a log with room for every line.
 fn run_started(
     table: &[u8],
     s: Sizes,
@@ -50,12 +50,84 @@ fn run_started(
     scratch: &mut [u16],
     start: u32,
 ) -> Answer
-    requires { ⌜ (judgementOf (now table) ≡ Accepted s) × (memorySize ≤ length (now scratch)) × (tagCount * s .atoms ≤ length (now log)) × (start ≡ size (theoryIn (now table) s)) × (start ≤ budget) ⌝ }
+    requires { ⌜ Paid (now table) s budget start (now scratch) × (tagCount * s .atoms ≤ length (now log)) ⌝ }
     ensures { λ r. ⌜ Worked (run (plainSystem (theoryIn (now (table .entry)) s)) budget) (now (scratch .entry)) (now (log .entry)) (now (scratch .exit)) (now (log .exit)) r ⌝ }
 {
     prepare(table, s, scratch);
     let lines = write_initial(table, s, scratch, log);
     work(table, s, budget, scratch, log, lines, start)
+}
+
+// The first words of one log into another.
+fn copy_lines(from: &[u16], lines: usize, log: &mut [u16])
+    requires { ⌜ (lines ≤ length (now from)) × (lines ≤ length (now log)) ⌝ }
+    ensures { λ _. ⌜ now (log .exit) ≡ take lines (now (from .entry)) ++ drop lines (now (log .entry)) ⌝ }
+{
+    let mut i: usize = 0;
+    while i < lines {
+        log[i] = from[i];
+        i += 1;
+    }
+}
+
+// A run in a draft, whose lines are copied: whether the log has a word for each is known at the end, and what is refused writes nothing.
+fn run_copied(
+    table: &[u8],
+    s: Sizes,
+    budget: u32,
+    log: &mut [u16],
+    scratch: &mut [u16],
+    draft: &mut [u16],
+    mem: &mut [u16],
+    start: u32,
+) -> Answer
+    requires { ⌜ Paid (now table) s budget start (now scratch) × (memorySize ≤ length (now mem)) × (tagCount * s .atoms ≤ length (now draft)) ⌝ }
+    ensures { λ r. ⌜ Ran (now (table .entry)) budget (now (log .entry)) (now (log .exit)) (now (scratch .entry)) (now (scratch .exit)) (numbersOf r) ⌝ }
+{
+    let answer = run_started(table, s, budget, draft, mem, start);
+    let lines = answer.numbers().lines as usize;
+    if log.len() < lines {
+        return refuse(Refusal::ShortLog, log, scratch);
+    }
+    copy_lines(draft, lines, log);
+    clear(scratch);
+    answer
+}
+
+// A run in buffers of its own, 69,632 bytes of stack.
+fn run_apart(
+    table: &[u8],
+    s: Sizes,
+    budget: u32,
+    log: &mut [u16],
+    scratch: &mut [u16],
+    start: u32,
+) -> Answer
+    requires { ⌜ Paid (now table) s budget start (now scratch) ⌝ }
+    ensures { λ r. ⌜ Ran (now (table .entry)) budget (now (log .entry)) (now (log .exit)) (now (scratch .entry)) (now (scratch .exit)) (numbersOf r) ⌝ }
+{
+    let mut draft = [0u16; 4 * Sizes::MAX_ATOMS as usize];
+    let mut mem = [0u16; SCRATCH];
+    run_copied(table, s, budget, log, scratch, &mut draft, &mut mem, start)
+}
+
+// A run in a short log (document 02, S-2). Of a longer scratch only the words that are to be cleared are lent. For that it calls itself: the
+// compiler takes no callee with a large frame into such a function, so that only runs in short logs pay for the stack of `run_apart`.
+fn run_short(
+    table: &[u8],
+    s: Sizes,
+    budget: u32,
+    log: &mut [u16],
+    scratch: &mut [u16],
+    start: u32,
+) -> Answer
+    requires { ⌜ Paid (now table) s budget start (now scratch) ⌝ }
+    ensures { λ r. ⌜ Ran (now (table .entry)) budget (now (log .entry)) (now (log .exit)) (now (scratch .entry)) (now (scratch .exit)) (numbersOf r) ⌝ }
+{
+    if SCRATCH < scratch.len() {
+        return run_short(table, s, budget, log, &mut scratch[0..SCRATCH], start);
+    }
+    run_apart(table, s, budget, log, scratch, start)
 }
 
 // The run of an accepted table. It leaves the scratch cleared.
@@ -66,9 +138,6 @@ fn run_accepted(table: &[u8], s: Sizes, budget: u32, log: &mut [u16], scratch: &
     if scratch.len() < SCRATCH {
         return refuse(Refusal::ShortScratch, log, scratch);
     }
-    if log.len() < 4 * (s.atoms as usize) {
-        return refuse(Refusal::ShortLog, log, scratch);
-    }
     let size = size_of(s);
     if budget < size {
         clear(scratch);
@@ -77,6 +146,10 @@ fn run_accepted(table: &[u8], s: Sizes, budget: u32, log: &mut [u16], scratch: &
             worked: 0,
             spent: 0,
         });
+    }
+    // 4A words have room for every line.
+    if log.len() < 4 * (s.atoms as usize) {
+        return run_short(table, s, budget, log, scratch, size);
     }
     let answer = run_started(table, s, budget, log, scratch, size);
     clear(scratch);

@@ -5,12 +5,11 @@ use native.Mathlib.Omega.{arith}
 use mathlib.Core.Path.{_≡_, refl, sym, _∙_, ap, ap₂, subst}
 use mathlib.Core.Bool.{cond}
 use mathlib.Core.List.{List, _++_}
-use borrow.Author.Tests.{le-ltb}
 use lib.Dec.{T}
 use lib.ListN.{length, take, drop, getD, replicate, length-append, length-replicate, take-append-drop, List·getD-append}
 use lib.Seq.{take-at, take-suc, length-take-le}
 use Rattle.logic.specs.Tests.{member}
-use Rattle.logic.specs.Theory.{entries, size, proper}
+use Rattle.logic.specs.Theory.{entries, size}
 use Rattle.logic.specs.Worklist.{logOf, lines, run}
 use Rattle.logic.specs.Plain.{plainSystem, bound}
 use Rattle.logic.specs.Demands.{Demands}
@@ -24,12 +23,13 @@ use Rattle.table.specs.declared.judge.Judgement.the-variants as judgement
 use Rattle.table.specs.Format.{theoryIn, theoryOf, sizesOf}
 use Rattle.table.specs.Refusals.{numberOf, judgementOf}
 use Rattle.table.proofs.Numbers.{number-range}
-use Rattle.table.proofs.Legal.{legal, Limited, limited, ranged, proper-theory, all-entries}
+use Rattle.table.proofs.Legal.{legal, Limited, limited, ranged, all-entries}
 use Rattle.engine.specs.declared.answer.Counts.{Counts}
 use Rattle.engine.specs.declared.answer.Answer.{Answer}
 use Rattle.engine.specs.declared.answer.Answer.the-variants.{Refused, Stopped, Finished}
-use Rattle.engine.specs.Answers.{numbersOf, withBuffers, runOf, countsIn, answerTo, logAfter, Ran}
+use Rattle.engine.specs.Answers.{numbersOf, runOf, callJudgement, countsIn, answerTo, logAfter, Ran}
 use Rattle.engine.proofs.answer.Numbering.{answer-is}
+use Rattle.engine.proofs.answer.Buffers.{proper-read, atoms-read, refused-table, full-log, long-enough}
 use Rattle.report.specs.Text.{decimal, refusedWord, newline}
 use Rattle.report.specs.Sheet.{runSheet, refusedSheet, budgetOf, sheetBy, sheetOf, Printed}
 use Rattle.report.specs.Printing.{Put, FitsRun, Fits, sheetTo}
@@ -49,13 +49,6 @@ module _ (b : List ℕ) (s : Sizes) (e : judgementOf b ≡ judgement.Accepted s)
   few : Limited s
   few = limited s (legal b s e .limits)
 
-  proper-of : T (proper (theoryOf b))
-  proper-of = subst (λ z. T (proper (theoryIn b z))) (sym read) (proper-theory b s (ranged b s (legal b s e .ranges)))
-
-  pub atoms-of : theoryOf b .atoms ≡ s .atoms
-  unfolding theoryIn
-  atoms-of = ap (λ z. z .atoms) read
-
   pub bound-of : budgetOf b ≡ 5 * s .atoms + s .facts + s .rules + 3 * s .entries + 3 * s .pairs
   unfolding theoryIn
   bound-of =
@@ -66,10 +59,10 @@ module _ (b : List ℕ) (s : Sizes) (e : judgementOf b ≡ judgement.Accepted s)
   bound-small = let l = few in omega (arith, bound-of, l .atoms, l .facts, l .rules, l .entries, l .pairs)
 
   pub run-finished : T (runOf b (budgetOf b) .finished)
-  run-finished = plain-finishes (theoryOf b) proper-of (budgetOf b) (le-refl (budgetOf b))
+  run-finished = plain-finishes (theoryOf b) (proper-read b s e) (budgetOf b) (le-refl (budgetOf b))
 
   pub run-demands : Demands (plainSystem (theoryOf b)) (bound (theoryOf b)) (5 * size (theoryOf b)) (budgetOf b)
-  run-demands = plain-demands (theoryOf b) proper-of (budgetOf b)
+  run-demands = plain-demands (theoryOf b) (proper-read b s e) (budgetOf b)
 
   -- the run under the bound, and the log that it left
   module _ (most : ℕ) (m : most ≡ 5 * s .atoms + s .facts + s .rules + 3 * s .entries + 3 * s .pairs) (log log′ : List ℕ) (w : log′ ≡ logOf (runOf b most) ++ drop (lines (runOf b most)) log) where
@@ -85,9 +78,9 @@ module _ (b : List ℕ) (s : Sizes) (e : judgementOf b ≡ judgement.Accepted s)
     line-below i h =
         let x = getD (logOf (runOf b most)) i 0 in
         let k : x < 2 * (4 * theoryOf b .atoms) =
-        conclusions-below (theoryOf b) proper-of (logOf (runOf b most)) (plain-demands (theoryOf b) proper-of most .isDerivation) x (in-log (logOf (runOf b most)) i h) in
+        conclusions-below (theoryOf b) (proper-read b s e) (logOf (runOf b most)) (plain-demands (theoryOf b) (proper-read b s e) most .isDerivation) x (in-log (logOf (runOf b most)) i h) in
         subst (λ z. z < 4096) (sym (ap (λ z. getD z i 0) w ∙ List·getD-append (logOf (runOf b most)) (drop (lines (runOf b most)) log) 0 i h))
-        (omega (arith, k, atoms-of, few .atoms))
+        (omega (arith, k, atoms-read b s e, few .atoms))
 
     run-fits : FitsRun (s .atoms) most log′ (countsIn (runOf b most))
     run-fits =
@@ -95,7 +88,7 @@ module _ (b : List ℕ) (s : Sizes) (e : judgementOf b ≡ judgement.Accepted s)
           atoms = few .atoms;
           lines = omega (arith, ap length w, length-append (logOf (runOf b most)) (drop (lines (runOf b most)) log));
           below = line-below;
-          spent = omega (arith, plain-demands (theoryOf b) proper-of most .within, m, bound-of, bound-small);
+          spent = omega (arith, plain-demands (theoryOf b) (proper-read b s e) most .within, m, bound-of, bound-small);
           most = omega (arith, m, bound-of, bound-small);
         }
 
@@ -103,17 +96,17 @@ module _ (b : List ℕ) (s : Sizes) (e : judgementOf b ≡ judgement.Accepted s)
     unfolding sheetBy
     run-sheet =
         ap (λ l. runSheet (s .atoms) l (runOf b most .spent) most) whole
-        ∙ ap₂ (λ a k. runSheet a (logOf (runOf b k)) (runOf b k .spent) k) (sym atoms-of) (m ∙ sym bound-of)
+        ∙ ap₂ (λ a k. runSheet a (logOf (runOf b k)) (runOf b k .spent) k) (sym (atoms-read b s e)) (m ∙ sym bound-of)
 
 module _ {b log log′ scratch scratch′ : List ℕ} (a : Answer) {most : ℕ} (r : Ran b most log log′ scratch scratch′ (numbersOf a)) (k : length log ≡ 2048) (l : length scratch ≡ 32768) (s : Sizes) (z : s ≡ sizesOf b)
     (m : most ≡ 5 * s .atoms + s .facts + s .rules + 3 * s .entries + 3 * s .pairs) where
   by-judgement : (j : Judgement) → judgementOf b ≡ j → (sheetTo (s .atoms) most log′ a ≡ sheetBy j b) × Fits (s .atoms) most log′ a
-  unfolding withBuffers answerTo logAfter sheetTo sheetBy Fits
+  unfolding answerTo logAfter sheetTo sheetBy Fits
   by-judgement (judgement.Refused n) e =
       subst (λ x. (sheetTo (s .atoms) most log′ x ≡ sheetBy (judgement.Refused n) b) × Fits (s .atoms) most log′ x) (sym same) (refl, tt)
     where
       same : a ≡ Refused n
-      same = answer-is r ∙ ap (λ j. answerTo (withBuffers j (length scratch) (length log)) (runOf b most)) e
+      same = answer-is r ∙ ap (λ j. answerTo j (runOf b most)) (refused-table b most (length scratch) (length log) n e)
   by-judgement (judgement.Accepted t) e =
       subst (λ x. (sheetTo (s .atoms) most log′ x ≡ sheetBy (judgement.Accepted t) b) × Fits (s .atoms) most log′ x) (sym same)
       (cond-cases (λ x. (sheetTo (s .atoms) most log′ x ≡ sheetBy (judgement.Accepted t) b) × Fits (s .atoms) most log′ x)
@@ -125,10 +118,8 @@ module _ {b log log′ scratch scratch′ : List ℕ} (a : Answer) {most : ℕ} 
       most-in : most ≡ 5 * t .atoms + t .facts + t .rules + 3 * t .entries + 3 * t .pairs
       most-in = subst (λ x. most ≡ 5 * x .atoms + x .facts + x .rules + 3 * x .entries + 3 * x .pairs) read-sizes m
 
-      room : withBuffers (judgementOf b) (length scratch) (length log) ≡ judgement.Accepted t
-      room =
-          ap (λ j. withBuffers j (length scratch) (length log)) e
-          ∙ (simp (le-ltb (length scratch) 32768 (omega arith), le-ltb (length log) (4 * t .atoms) (omega (arith, few b t e .atoms))))
+      room : callJudgement b most (length scratch) (length log) ≡ judgement.Accepted t
+      room = long-enough b t e most (length log) (length scratch) (omega arith) (full-log b t e most (length log) (omega (arith, few b t e .atoms)))
 
       same : a ≡ cond (runOf b most .finished) (Finished (countsIn (runOf b most))) (Stopped (countsIn (runOf b most)))
       same = answer-is r ∙ ap (λ j. answerTo j (runOf b most)) room
@@ -188,7 +179,7 @@ unfolding sheetBy
 sheet-length b (judgement.Refused n) e = let h = refused-length (numberOf n) (number-small n) in omega arith
 sheet-length b (judgement.Accepted s) e =
     run-length (theoryOf b .atoms) (logOf (runOf b (budgetOf b))) (runOf b (budgetOf b) .spent) (budgetOf b)
-    (omega (arith, atoms-of b s e, few b s e .atoms)) (omega (arith, run-demands b s e .within, bound-small b s e)) (bound-small b s e)
+    (omega (arith, atoms-read b s e, few b s e .atoms)) (omega (arith, run-demands b s e .within, bound-small b s e)) (bound-small b s e)
 
 pub printed : (b out : List ℕ) (r : ℕ) → Put (replicate 5041 0) 0 (sheetOf b) out r → Printed b out r
 printed b out r p =

@@ -10,9 +10,8 @@ use Rattle.logic.specs.Verdict.{Verdict, clash, go, split, «open»}
 use Rattle.logic.specs.Cases.{sameList}
 use Rattle.table.specs.declared.judge.Judgement.{Judgement}
 use Rattle.table.specs.declared.judge.Judgement.the-variants.{Accepted, Refused}
-use Rattle.table.specs.Refusals.{judgementOf}
 use Rattle.engine.specs.declared.answer.Numbers.{Numbers}
-use Rattle.engine.specs.Answers.{numbersOf, withBuffers, runOf, answerTo, logAfter}
+use Rattle.engine.specs.Answers.{numbersOf, runOf, callJudgement, answerTo, logAfter}
 use Rattle.report.specs.Text.{wordOf, space}
 use Rattle.report.specs.Sheet.{verdictIn, budgetOf, sheetOf}
 
@@ -62,7 +61,7 @@ givesBy r b j =
     and eqb (budgetOf b) (r .most) and sameList (wordsOf (verdictsOf j (r .lines))) (wordsOf (r .verdicts))
 
 unfoldable pub gives : Row → List ℕ → Bool
-gives r b = givesBy r b (withBuffers (judgementOf b) (r .scratch) (r .log))
+gives r b = givesBy r b (callJudgement b (r .budget) (r .scratch) (r .log))
 
 unfoldable pub allGive : List Row → Bool
 allGive [] = true

@@ -7,14 +7,14 @@ use mathlib.Core.List.{List}
 use lib.Dec.{eqb, eqb→eq}
 use lib.ListN.{length}
 use Rattle.table.specs.declared.judge.Refusal.{Refusal}
-use Rattle.table.specs.Refusals.{numberOf, judgementOf}
+use Rattle.table.specs.Refusals.{numberOf}
 use Rattle.logic.proofs.Tests.{cond-false}
 use Rattle.table.proofs.Numbers.{number-range, numbered, numbered-back}
 use Rattle.engine.specs.declared.answer.Counts.{Counts}
 use Rattle.engine.specs.declared.answer.Numbers.{Numbers}
 use Rattle.engine.specs.declared.answer.Answer.{Answer}
 use Rattle.engine.specs.declared.answer.Answer.the-variants.{Refused, Stopped, Finished}
-use Rattle.engine.specs.Answers.{refusalNumbers, runNumbers, numbersOf, withBuffers, runOf, answerTo, Ran}
+use Rattle.engine.specs.Answers.{refusalNumbers, runNumbers, numbersOf, runOf, callJudgement, answerTo, Ran}
 
 module _ (a : Answer) where
   pub refused-numbers : (n : Refusal) (k : ℕ) → a ≡ Refused n → k ≡ numberOf n → refusalNumbers k ≡ numbersOf a
@@ -49,5 +49,5 @@ one-answer a z e = sym (answer-back a) ∙ ap answerIn e ∙ answer-back z
 
 -- a run's answer by its contract
 pub answer-is : {b log log′ scratch scratch′ : List ℕ} {budget : ℕ} {a : Answer} → Ran b budget log log′ scratch scratch′ (numbersOf a)
-    → a ≡ answerTo (withBuffers (judgementOf b) (length scratch) (length log)) (runOf b budget)
+    → a ≡ answerTo (callJudgement b budget (length scratch) (length log)) (runOf b budget)
 answer-is r = one-answer _ _ (r .answer)

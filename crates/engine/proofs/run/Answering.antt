@@ -1,34 +1,34 @@
 -- A run's answer and buffers, by the judgement of its table. Assumes nothing.
 use Prim.Native.Nat.{ℕ, _+_, _-_, _*_, _≤_, _<_}
 use native.Mathlib.Omega.{arith}
-use mathlib.Core.Path.{_≡_, refl, sym, _∙_, ap, subst}
-use mathlib.Core.List.{List, [], _++_}
-use borrow.Author.Tests.{lt-ltb, le-ltb}
-use lib.Dec.{T}
-use lib.ListN.{length, drop, replicate, length-append}
-use lib.Seq.{length-take-le}
-use Rattle.logic.specs.Theory.{Theory, proper, entries, size}
+use mathlib.Core.Path.{_≡_, refl, sym, _∙_, ap, ap₂, subst}
+use mathlib.Core.List.{List, [], _++_, append-nil}
+use lib.ListN.{length, take, drop, replicate, length-append, take-append-drop}
+use lib.Seq.{length-take-le, take-at, drop-length}
+use Rattle.logic.specs.Theory.{Theory, entries, size}
 use Rattle.logic.specs.System.{System}
-use Rattle.logic.specs.Worklist.{logOf, lines, initial, run}
+use Rattle.logic.specs.Worklist.{Outcome, logOf, lines, initial, run}
 use Rattle.logic.specs.Reading.{systemOf}
 use Rattle.logic.specs.Plain.{plainSystem, bound}
 use Rattle.logic.specs.Demands.{Demands}
 use Rattle.logic.proofs.Budgets.{proceed-extends, run-started, run-unstarted}
 use Rattle.logic.proofs.Plain.{plain-demands}
+use Rattle.logic.proofs.Tests.{cond-cases}
 use Rattle.table.specs.declared.format.Sizes.{Sizes}
 use Rattle.table.specs.declared.judge.Refusal.{Refusal}
-use Rattle.table.specs.declared.judge.Refusal.the-variants.{ShortScratch, ShortLog}
+use Rattle.table.specs.declared.judge.Judgement.{Judgement}
 use Rattle.table.specs.declared.judge.Judgement.the-variants as judgement
 use Rattle.table.specs.Format.{theoryIn, theoryOf}
 use Rattle.table.specs.Refusals.{judgementOf}
 use Rattle.table.proofs.Legal.{legal, ranged, all-entries}
+use Rattle.engine.specs.declared.answer.Numbers.{Numbers}
 use Rattle.engine.specs.declared.answer.Answer.{Answer}
-use Rattle.engine.specs.declared.answer.Answer.the-variants.{Refused, Stopped}
-use Rattle.memory.specs.Layout.{tagCount}
+use Rattle.engine.specs.declared.answer.Answer.the-variants.{Refused, Stopped, Finished}
 use Rattle.memory.specs.Api.{Prepared}
-use Rattle.engine.specs.Answers.{numbersOf, withBuffers, runOf, answerTo, logAfter, scratchAfter, Ran}
+use Rattle.engine.specs.Answers.{numbersOf, runOf, callJudgement, countsIn, answerTo, logAfter, scratchAfter, Ran}
 use Rattle.engine.specs.Working.{Opened, Worked}
-use Rattle.engine.proofs.run.Trying.{drop-further, proper-in}
+use Rattle.engine.proofs.answer.Buffers.{theory-read, run-read, proper-read, no-line, by-log, long-enough}
+use Rattle.engine.proofs.run.Trying.{drop-further}
 use Rattle.memory.proofs.Views.{kept-none, kept-then}
 
 -- the log only grows
@@ -66,56 +66,91 @@ module _ (b : List ℕ) (s : Sizes) (e : judgementOf b ≡ judgement.Accepted s)
       (sym (run-unstarted (plainSystem (theoryIn b s)) budget (subst (λ k. budget < k) f h)))
       (record { answer = refl; written = refl; kept = kept-none m })
 
-module _ (b : List ℕ) (budget : ℕ) where
-  demands-of : (s : Sizes) → judgementOf b ≡ judgement.Accepted s → Demands (plainSystem (theoryOf b)) (bound (theoryOf b)) (5 * size (theoryOf b)) budget
-  demands-of s e = plain-demands (theoryOf b) (subst (λ z. T (proper (theoryIn b z))) (sym (legal b s e .read)) (proper-in b s e)) budget
+  -- which has no line
+  pub unpaid : (n budget log : ℕ) → n ≡ size (theoryIn b s) → budget < n → lines (runOf b budget) ≤ log
+  unpaid n budget log f h = no-line b s e budget log (subst (λ d. budget < size d) (theory-read b s e) (subst (λ k. budget < k) f h))
 
-  -- refused: by the table, by the scratch, by the log
-  module _ (log scratch : List ℕ) where
-    ran-refused : (n : Refusal) → withBuffers (judgementOf b) (length scratch) (length log) ≡ judgement.Refused n → Ran b budget log log scratch scratch (numbersOf (Refused n))
-    unfolding answerTo logAfter scratchAfter
-    ran-refused n e =
+  -- A run that was made in other buffers, and its lines copied.
+  module _ (budget : ℕ) {m m′ l l′ : List ℕ} {a : Answer} (w : Worked (run (plainSystem (theoryIn b s)) budget) m l m′ l′ a) (n : Numbers) (f : n ≡ numbersOf a) where
+    o : Outcome
+    o = run (plainSystem (theoryIn b s)) budget
+
+    count : n .lines ≡ lines o
+    unfolding numbersOf o
+    count =
+        ap (λ z. z .lines) f ∙ ap (λ z. numbersOf z .lines) (w .answer)
+        ∙ cond-cases (λ z. numbersOf z .lines ≡ lines o) (o .finished) (Finished (countsIn o)) (Stopped (countsIn o)) (λ _. refl) (λ _. refl)
+
+    pub lines-written : n .lines ≡ lines (runOf b budget)
+    unfolding o
+    lines-written = count ∙ ap (λ z. lines z) (run-read b s e budget)
+
+    pub lines-inside : n .lines ≤ length l′
+    unfolding o
+    lines-inside = omega (arith, count, ap length (w .written), length-append (logOf o) (drop (lines o) l))
+
+    pub worked-copied : (mem log log′ : List ℕ) → log′ ≡ take (n .lines) l′ ++ drop (n .lines) log → Worked (run (plainSystem (theoryIn b s)) budget) mem log mem log′ a
+    unfolding o
+    worked-copied mem log log′ g =
         record {
-          answer = sym (ap (λ j. numbersOf (answerTo j (runOf b budget))) e);
-          written = sym (ap (λ j. logAfter j (runOf b budget) log) e);
-          cleared = sym (ap (λ j. scratchAfter j scratch) e);
-          demands = demands-of;
+          answer = w .answer;
+          written = g ∙ ap₂ _++_ (ap (take (n .lines)) (w .written) ∙ take-at (logOf o) (drop (lines o) l) (n .lines) (sym count)) (ap (λ k. drop k log) count);
+          kept = kept-none mem;
         }
 
-    -- as it is answered
-    pub refused-as : {n : Refusal} {a : Answer} {log′ scratch′ : List ℕ} → Ran b budget log log scratch scratch (numbersOf (Refused n))
-        → (a ≡ Refused n) × (log′ ≡ log) × (scratch′ ≡ scratch) → Ran b budget log log′ scratch scratch′ (numbersOf a)
-    refused-as r (e, f, g) = coe 1 0 (i. Ran b budget log (f i) scratch (g i) (numbersOf (e i))) r
+-- the scratch after a call, by its first words and the rest
+rest-after : (j : Judgement) (l : List ℕ) → 32768 ≤ length l → scratchAfter j (take 32768 l) ++ drop 32768 l ≡ scratchAfter j l
+unfolding scratchAfter
+rest-after (judgement.Accepted s) l h =
+    ap (λ (z : List ℕ). (replicate 32768 0 ++ z) ++ drop 32768 l)
+    (ap (λ k. drop k (take 32768 l)) (sym (length-take-le 32768 l h)) ∙ drop-length (take 32768 l))
+    ∙ ap (λ (z : List ℕ). z ++ drop 32768 l) (append-nil (replicate 32768 0))
+rest-after (judgement.Refused n) l h = take-append-drop 32768 l
 
-    pub refused-table : (n : Refusal) → judgementOf b ≡ judgement.Refused n → Ran b budget log log scratch scratch (numbersOf (Refused n))
-    unfolding withBuffers
-    refused-table n e = ran-refused n (ap (λ j. withBuffers j (length scratch) (length log)) e)
+module _ (b : List ℕ) (budget : ℕ) (log scratch : List ℕ) where
+  demands-of : (s : Sizes) → judgementOf b ≡ judgement.Accepted s → Demands (plainSystem (theoryOf b)) (bound (theoryOf b)) (5 * size (theoryOf b)) budget
+  demands-of s e = plain-demands (theoryOf b) (proper-read b s e) budget
 
-    module _ (s : Sizes) (e : judgementOf b ≡ judgement.Accepted s) where
-      pub refused-scratch : length scratch < 32768 → Ran b budget log log scratch scratch (numbersOf (Refused ShortScratch))
-      unfolding withBuffers
-      refused-scratch h = ran-refused ShortScratch (ap (λ j. withBuffers j (length scratch) (length log)) e ∙ (simp (lt-ltb (length scratch) 32768 h)))
+  -- refused
+  pub ran-refused : {n : Refusal} {a : Answer} {log′ scratch′ : List ℕ} → callJudgement b budget (length scratch) (length log) ≡ judgement.Refused n
+      → (a ≡ Refused n) × (log′ ≡ log) × (scratch′ ≡ scratch) → Ran b budget log log′ scratch scratch′ (numbersOf a)
+  unfolding answerTo logAfter scratchAfter
+  ran-refused e (f, g, h) =
+      record {
+        answer = ap numbersOf f ∙ sym (ap (λ j. numbersOf (answerTo j (runOf b budget))) e);
+        written = g ∙ sym (ap (λ j. logAfter j (runOf b budget) log) e);
+        cleared = h ∙ sym (ap (λ j. scratchAfter j scratch) e);
+        demands = demands-of;
+      }
 
-      pub refused-log : 32768 ≤ length scratch → length log < tagCount * s .atoms → Ran b budget log log scratch scratch (numbersOf (Refused ShortLog))
-      unfolding withBuffers
-      refused-log h k = ran-refused ShortLog
-          (ap (λ j. withBuffers j (length scratch) (length log)) e ∙ (simp (le-ltb (length scratch) 32768 h, lt-ltb (length log) (tagCount * s .atoms) k)))
+  -- run, and the scratch cleared
+  pub ran : (s : Sizes) (e : judgementOf b ≡ judgement.Accepted s) → 32768 ≤ length scratch → lines (runOf b budget) ≤ length log → (mem log′ scratch′ : List ℕ) (a : Answer)
+      → Worked (run (plainSystem (theoryIn b s)) budget) scratch log mem log′ a → scratch′ ≡ replicate 32768 0 ++ drop 32768 mem
+      → Ran b budget log log′ scratch scratch′ (numbersOf a)
+  unfolding answerTo logAfter scratchAfter
+  ran s e h k mem log′ scratch′ a w f =
+      record {
+        answer = ap numbersOf (w .answer ∙ ap (λ o. answerTo (judgement.Accepted s) o) (run-read b s e budget) ∙ sym (ap (λ j. answerTo j (runOf b budget)) accepted));
+        written = w .written ∙ ap (λ o. logAfter (judgement.Accepted s) o log) (run-read b s e budget) ∙ sym (ap (λ j. logAfter j (runOf b budget) log) accepted);
+        cleared = f ∙ ap (λ (z : List ℕ). replicate 32768 0 ++ z) (w .kept .rest) ∙ sym (ap (λ j. scratchAfter j scratch) accepted);
+        demands = demands-of;
+      }
+    where
+      accepted : callJudgement b budget (length scratch) (length log) ≡ judgement.Accepted s
+      accepted = long-enough b s e budget (length log) (length scratch) h k
 
-      -- run, and the scratch cleared
-      pub ran : 32768 ≤ length scratch → tagCount * s .atoms ≤ length log → (mem log′ scratch′ : List ℕ) (a : Answer)
-          → Worked (run (plainSystem (theoryIn b s)) budget) scratch log mem log′ a → scratch′ ≡ replicate 32768 0 ++ drop 32768 mem
-          → Ran b budget log log′ scratch scratch′ (numbersOf a)
-      unfolding withBuffers answerTo logAfter scratchAfter
-      ran h k mem log′ scratch′ a w f =
-          record {
-            answer = ap numbersOf (w .answer ∙ ap (λ o. answerTo (judgement.Accepted s) o) same ∙ sym (ap (λ j. answerTo j (runOf b budget)) accepted));
-            written = w .written ∙ ap (λ o. logAfter (judgement.Accepted s) o log) same ∙ sym (ap (λ j. logAfter j (runOf b budget) log) accepted);
-            cleared = f ∙ ap (λ (z : List ℕ). replicate 32768 0 ++ z) (w .kept .rest) ∙ sym (ap (λ j. scratchAfter j scratch) accepted);
-            demands = demands-of;
-          }
-        where
-          accepted : withBuffers (judgementOf b) (length scratch) (length log) ≡ judgement.Accepted s
-          accepted = ap (λ j. withBuffers j (length scratch) (length log)) e ∙ (simp (le-ltb (length scratch) 32768 h, le-ltb (length log) (tagCount * s .atoms) k))
-
-          same : run (plainSystem (theoryIn b s)) budget ≡ runOf b budget
-          same = ap (λ z. run (plainSystem (theoryIn b z)) budget) (sym (legal b s e .read))
+  -- only the first words of the scratch lent
+  pub ran-cut : (s : Sizes) (e : judgementOf b ≡ judgement.Accepted s) → 32768 ≤ length scratch → (log′ part scratch′ : List ℕ) {r : Numbers}
+      → Ran b budget log log′ (take 32768 scratch) part r → scratch′ ≡ part ++ drop 32768 scratch → Ran b budget log log′ scratch scratch′ r
+  ran-cut s e h log′ part scratch′ r g =
+      record {
+        answer = r .answer ∙ ap (λ j. numbersOf (answerTo j (runOf b budget))) same;
+        written = r .written ∙ ap (λ j. logAfter j (runOf b budget) log) same;
+        cleared = g ∙ ap (λ (z : List ℕ). z ++ drop 32768 scratch) (r .cleared ∙ ap (λ j. scratchAfter j (take 32768 scratch)) same) ∙ rest-after _ scratch h;
+        demands = r .demands;
+      }
+    where
+      same : callJudgement b budget (length (take 32768 scratch)) (length log) ≡ callJudgement b budget (length scratch) (length log)
+      same =
+          by-log b s e budget (length log) (length (take 32768 scratch)) (omega (arith, length-take-le 32768 scratch h))
+          ∙ sym (by-log b s e budget (length log) (length scratch) h)

@@ -1,6 +1,7 @@
 -- `engine::run::run` meets its contract. Assumes nothing.
 use mathlib.Core.Path.{sym, _∙_}
-use Rattle.engine.proofs.run.Answering.{refused-as, refused-table}
+use Rattle.engine.proofs.answer.Buffers.{refused-table}
+use Rattle.engine.proofs.run.Answering.{ran-refused}
 use borrow.Author.Needs.{needs}
 use Rattle.engine.proofs.run.run.Statement.{statement}
 use Rattle.engine.proofs.run.run.Tie as tie
@@ -10,7 +11,7 @@ run-accepted-requires c κs = sym (c .before .before .before .before .before .ju
 
 returns-2 : tie.Need-returns-2
 returns-2 c =
-    let n = c .before .before .before .before .before .before .before .before in refused-as _ _ _ _ (refused-table _ _ _ _ _ (sym (n .before .before .judge .ensures .judgement) ∙ n .n .given .1)) (c .before .before .before .before .refuse .ensures)
+    let n = c .before .before .before .before .before .before .before .before in ran-refused _ _ _ _ (refused-table _ _ _ _ _ (sym (n .before .before .judge .ensures .judgement) ∙ n .n .given .1)) (c .before .before .before .before .refuse .ensures)
 
 pub run-spec : {M : Type 1} → statement M
 run-spec =

@@ -9,21 +9,21 @@ work-requires : tie.Need-work-requires
 work-requires c κs =
     let at-write-initial = c .before .before .before .before .before .before in let at-prepare = at-write-initial .before .before .before .before .before in
     let start = at-prepare .before .before .before .before .before in
-    let pre = start .pre in (
+    let paid = start .pre .0 in (
       (
-        pre .0,
+        paid .accepted,
         at-write-initial .write-initial .ensures .logged,
         at-write-initial .write-initial .ensures .lines,
         λ x. at-write-initial .write-initial .ensures .held x ∙ at-prepare .prepare .ensures .none x,
       ),
-      (pre .3, pre .4),
+      (paid .size, paid .within),
     )
 
 returns : tie.Need-returns
 returns c =
     let at-work = c .before .before .before .before in let at-write-initial = at-work .before .before .before .before .before .before .before in
     let at-prepare = at-write-initial .before .before .before .before .before in let start = at-prepare .before .before .before .before .before in
-    worked-all _ _ _ (start .pre .3) (start .pre .4) (at-prepare .prepare .ensures) (at-write-initial .write-initial .ensures) (at-work .work .ensures)
+    worked-all _ _ _ (start .pre .0 .size) (start .pre .0 .within) (at-prepare .prepare .ensures) (at-write-initial .write-initial .ensures) (at-work .work .ensures)
 
 pub run-started-spec : {M : Type 1} → statement M
 run-started-spec =
