@@ -1,12 +1,14 @@
 -- The judgement, fault by fault. Assumes nothing.
 use Prim.Native.Nat.{ℕ, _+_, _*_, _≤_, _<_}
 use mathlib.Core.Path.{_≡_, refl, sym, _∙_, ap}
+use mathlib.Core.Logic.{⊎-elim}
 use mathlib.Core.Bool.{Bool, true, false, cond}
 use mathlib.Core.List.{List}
 use borrow.Author.Tests.{lt-ltb, le-ltb, eq-eqb, ne-eqb}
 use lib.Dec.{ltb}
 use lib.ListN.{length}
-use Rattle.logic.specs.Tests.{isnt}
+use Rattle.logic.specs.Tests.{_or_, isnt}
+use Rattle.logic.proofs.Tests.{true-of, of-true, or-left, or-right, or-elim}
 use Rattle.table.specs.declared.format.Sizes.{Sizes}
 use Rattle.table.specs.declared.judge.Refusal.{Refusal}
 use Rattle.table.specs.declared.judge.Refusal.the-variants.{Truncated, TooLarge, WrongLength, BadKind, OutOfRange, Unsorted, Cyclic}
@@ -14,10 +16,32 @@ use Rattle.table.specs.declared.judge.Judgement.{Judgement}
 use Rattle.table.specs.declared.judge.Judgement.the-variants.{Accepted, Refused}
 use Rattle.table.specs.Format.{sizesOf, spanOf}
 use Rattle.table.specs.Refusals.{numberOf, oversize, wrongLength, badKind, outOfRange, disorder, cycle, judged, judgementOf, refusedBy, faults, firstFrom, Judged}
+use Rattle.table.proofs.Legal.{or-fails}
 
 -- a test read as a flag
 pub flag : {r t v : Bool} → r ≡ t → r ≡ v → t ≡ v
 flag e f = sym e ∙ f
+
+-- the five limits, in the three tests of `judge`
+module _ (s : Sizes) where
+  pub over-atoms : 512 < s .atoms → oversize s ≡ true
+  unfolding oversize _or_
+  over-atoms h = simp (lt-ltb 512 (s .atoms) h)
+
+  pub over-terms : {r : Bool} → r ≡ (ltb 1024 (s .facts) or ltb 1024 (s .rules)) → r ≡ true → oversize s ≡ true
+  unfolding oversize
+  over-terms e f = true-of _ (or-right _ _ (⊎-elim (or-left _ _) (λ t. or-right _ _ (or-left _ _ t)) (or-elim _ _ (of-true _ (flag e f)))))
+
+  pub over-lists : {r : Bool} → r ≡ (ltb 4096 (s .entries) or ltb 2048 (s .pairs)) → r ≡ true → oversize s ≡ true
+  unfolding oversize
+  over-lists e f = true-of _ (or-right _ _ (or-right _ _ (or-right _ _ (of-true _ (flag e f)))))
+
+  pub within : {q r : Bool} → s .atoms ≤ 512 → q ≡ (ltb 1024 (s .facts) or ltb 1024 (s .rules)) → q ≡ false
+      → r ≡ (ltb 4096 (s .entries) or ltb 2048 (s .pairs)) → r ≡ false → oversize s ≡ false
+  unfolding oversize _or_
+  within h e f g i =
+      let (j, k) = or-fails (ltb 1024 (s .facts)) (ltb 1024 (s .rules)) (flag e f) in
+      simp (le-ltb 512 (s .atoms) h, j, k, flag g i)
 
 pub wrong-length : (b : List ℕ) (s : Sizes) (span : ℕ) → span ≡ spanOf s → (length b ≡ 10 + 4 * span → ⊥) → wrongLength b s ≡ true
 unfolding wrongLength isnt

@@ -72,7 +72,7 @@ legal b s e =
     }
 
 -- a disjunction that fails fails on both sides
-or-fails : (x y : Bool) → x or y ≡ false → (x ≡ false) × (y ≡ false)
+pub or-fails : (x y : Bool) → x or y ≡ false → (x ≡ false) × (y ≡ false)
 or-fails x y e = (false-of x (λ t. of-false _ e (or-left x y t)), false-of y (λ t. of-false _ e (or-right x y t)))
 
 -- the sizes are within their limits

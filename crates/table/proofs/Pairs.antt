@@ -10,6 +10,9 @@ use lib.Dec.{eqb, ltb}
 use lib.ListN.{length, getD, take}
 use lib.Seq.{length-take-le}
 use Rattle.logic.specs.Tests.{countBelow}
+use Rattle.logic.specs.Theory.{superior}
+use Rattle.logic.proofs.Tests.{false-of, some-elim}
+use Rattle.logic.proofs.Cycle.{cycle-next, cyclic-sound}
 use Rattle.table.specs.declared.format.Sizes.{Sizes}
 use Rattle.table.specs.declared.format.Pair.{Pair}
 use Rattle.table.specs.declared.judge.Judgement.the-variants.{Accepted}
@@ -66,3 +69,12 @@ module _ (b : List ℕ) (s : Sizes) where
   unfolding theoryIn cycle
   table-end o degree queue all h k =
       ap (λ n. ltb n (s .rules)) (sym (length-take-le all queue h)) ∙ queued-end (theoryIn b s) o degree (take all queue) k
+
+  pub no-pairs : s .pairs ≡ 0 → cycle b s ≡ false
+  unfolding theoryIn cycle superior
+  no-pairs e =
+      false-of _ (λ t.
+      let (r, l) = cyclic-sound _ (s .rules) t in
+      let (_, u, _) = cycle-next _ r l in
+      let (i, h, _) = some-elim _ _ u in
+      omega (arith, e, h))
