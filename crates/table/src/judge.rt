@@ -63,8 +63,8 @@ pub fn judge(table: &[u8]) -> Judgement
         return Judgement::Refused(Refusal::Truncated);
     }
     let s = read_sizes(table);
-    // One of the five sizes above its limit, in three tests: past so many the compiler keeps the passes over the words apart, and the frame
-    // that lies under the cycle test is the smaller (docs/DECISIONS.md, a run's stack).
+    // One of the five sizes above its limit, in three tests: past so many the compiler leaves two passes over the words in frames of their
+    // own, and the stack of a run, which is the largest in the cycle test, is smaller (docs/DECISIONS.md).
     if Sizes::MAX_ATOMS < s.atoms {
         return Judgement::Refused(Refusal::TooLarge);
     }
