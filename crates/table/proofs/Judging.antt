@@ -28,13 +28,13 @@ module _ (s : Sizes) where
   unfolding oversize _or_
   over-atoms h = simp (lt-ltb 512 (s .atoms) h)
 
-  pub over-terms : {r : Bool} → r ≡ (ltb 1024 (s .facts) or ltb 1024 (s .rules)) → r ≡ true → oversize s ≡ true
+  pub over-facts-or-rules : {r : Bool} → r ≡ (ltb 1024 (s .facts) or ltb 1024 (s .rules)) → r ≡ true → oversize s ≡ true
   unfolding oversize
-  over-terms e f = true-of _ (or-right _ _ (⊎-elim (or-left _ _) (λ t. or-right _ _ (or-left _ _ t)) (or-elim _ _ (of-true _ (flag e f)))))
+  over-facts-or-rules e f = true-of _ (or-right _ _ (⊎-elim (or-left _ _) (λ t. or-right _ _ (or-left _ _ t)) (or-elim _ _ (of-true _ (flag e f)))))
 
-  pub over-lists : {r : Bool} → r ≡ (ltb 4096 (s .entries) or ltb 2048 (s .pairs)) → r ≡ true → oversize s ≡ true
+  pub over-entries-or-pairs : {r : Bool} → r ≡ (ltb 4096 (s .entries) or ltb 2048 (s .pairs)) → r ≡ true → oversize s ≡ true
   unfolding oversize
-  over-lists e f = true-of _ (or-right _ _ (or-right _ _ (or-right _ _ (of-true _ (flag e f)))))
+  over-entries-or-pairs e f = true-of _ (or-right _ _ (or-right _ _ (or-right _ _ (of-true _ (flag e f)))))
 
   pub within : {q r : Bool} → s .atoms ≤ 512 → q ≡ (ltb 1024 (s .facts) or ltb 1024 (s .rules)) → q ≡ false
       → r ≡ (ltb 4096 (s .entries) or ltb 2048 (s .pairs)) → r ≡ false → oversize s ≡ false

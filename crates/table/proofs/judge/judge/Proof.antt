@@ -8,7 +8,7 @@ use Rattle.table.specs.declared.format.Sizes.{Sizes}
 use Rattle.table.specs.declared.judge.Judgement.{Judgement}
 use Rattle.table.specs.Format.{spanOf}
 use Rattle.table.specs.Refusals.{oversize, wrongLength, badKind, outOfRange, disorder, judged, Judged}
-use Rattle.table.proofs.Judging.{flag, over-atoms, over-terms, over-lists, within, wrong-length, right-length, judged-short, judged-by, judged-2, judged-3, judged-4, judged-5, judged-6, judged-7, judged-0}
+use Rattle.table.proofs.Judging.{flag, over-atoms, over-facts-or-rules, over-entries-or-pairs, within, wrong-length, right-length, judged-short, judged-by, judged-2, judged-3, judged-4, judged-5, judged-6, judged-7, judged-0}
 use Rattle.table.proofs.Pairs.{no-pairs}
 use borrow.Author.Needs.{needs}
 use Rattle.table.proofs.judge.judge.Statement.{statement}
@@ -59,10 +59,10 @@ returns-2 : tie.Need-returns-2
 returns-2 c = by-sizes (c .before .before) _ (judged-2 _ _ (over-atoms _ (c .if2 .taken)))
 
 returns-3 : tie.Need-returns-3
-returns-3 c = by-sizes (c .before .before .before .before .before .before) _ (judged-2 _ _ (over-terms _ (c .before .either .ensures) (c .if3 .taken)))
+returns-3 c = by-sizes (c .before .before .before .before .before .before) _ (judged-2 _ _ (over-facts-or-rules _ (c .before .either .ensures) (c .if3 .taken)))
 
 returns-4 : tie.Need-returns-4
-returns-4 c = by-sizes (c .before .before .before .before .before .before .before .before .before .before) _ (judged-2 _ _ (over-lists _ (c .before .either2 .ensures) (c .if4 .taken)))
+returns-4 c = by-sizes (c .before .before .before .before .before .before .before .before .before .before) _ (judged-2 _ _ (over-entries-or-pairs _ (c .before .either2 .ensures) (c .if4 .taken)))
 
 returns-5 : tie.Need-returns-5
 returns-5 c = let at-if4 = c .before .before in by-sizes (read at-if4) _ (judged-3 _ _ (limits at-if4) (wrong-length _ _ _ (c .before .span .ensures) (c .if5 .taken)))
