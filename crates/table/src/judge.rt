@@ -1,6 +1,6 @@
 // Document 01, What the console turns away: the judgement of a table.
 ghost use mathlib.Core.Path.{_≡_};
-ghost use Rattle.table.specs.Refusals.{numberOf, oversize, Judged};
+ghost use Rattle.table.specs.Refusals.{numberOf, Judged};
 use crate::cycle::has_cycle;
 use crate::format::Sizes;
 use crate::format::read_sizes;
