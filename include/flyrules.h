@@ -20,12 +20,18 @@
  * copied if they fit; if they do not, the caller's buffers stay as they were. A log that serves a budget serves every smaller one, and
  * perhaps no larger one. Under a budget below A+F+N+B+P no line is written, and a log of no words serves.
  *
+ * How a rule stands. fly_stands says of one rule whether it fires, is out, or waits, by the words of a log, which is only read: the first
+ * `lines` words that a run wrote, or its first `worked` ones, or any others, of any length, 0 too. A word that is no line of the table says
+ * nothing. Over the lines of a run no rule has +∂ for all its antecedents and −∂ for one; over words that give it both, firing comes
+ * first. A call takes time in proportion to table and log.
+ *
  * What a caller owes. Pointers are not NULL, even where a length is 0; each buffer has the length that is passed; buffers overlap neither
  * each other nor the table. Nothing else: what is wrong with a table or with a length is answered by a number (fly_refusal).
  *
  * Threads and stack. The functions keep no state between calls, allocate nothing, and call nothing of the C library but memcpy and
- * memset. Any number of threads may call them, each with its own buffers; a table is only read and may be shared. A run takes at most
- * FLY_RUN_STACK bytes of stack, one with a short log FLY_SHORT_LOG_STACK, and a sheet FLY_SHEET_STACK.
+ * memset. Any number of threads may call them, each with its own buffers; a table, and the log of fly_stands, is only read and may be
+ * shared. A run takes at most FLY_RUN_STACK bytes of stack, one with a short log FLY_SHORT_LOG_STACK, a sheet FLY_SHEET_STACK, and
+ * fly_stands FLY_STANDS_STACK.
  *
  * The budget. A run spends at most its budget, and takes time in proportion to what it spends (docs/PERFORMANCE.md), after judging the
  * table, which takes time in proportion to the table. With a budget below A+F+N+B+P nothing is written. 5A+F+N+3B+3P finishes, and
@@ -60,6 +66,7 @@ extern "C" {
 #define FLY_RUN_STACK 8192
 #define FLY_SHORT_LOG_STACK 81920
 #define FLY_SHEET_STACK 98304
+#define FLY_STANDS_STACK 12288
 
 /* a line, taken apart */
 #define FLY_LITERAL(line) ((line) / 4u)
@@ -74,7 +81,14 @@ enum fly_tag {
     FLY_NOT_DEFEASIBLY = 3  /* −∂: shown to have no such proof */
 };
 
-/* Why a call is refused. The lowest number that applies is given. */
+/* How a rule stands: the first that fits. */
+enum fly_stand {
+    FLY_FIRING = 0, /* every antecedent has +∂; a rule without antecedents fires */
+    FLY_OUT = 1,    /* an antecedent has −∂ */
+    FLY_WAITING = 2 /* neither */
+};
+
+/* Why a call is refused. The lowest number that applies is given; fly_stands gives a table's before that of a rule number. */
 enum fly_refusal {
     FLY_TRUNCATED = 1,     /* the table has fewer than 10 bytes */
     FLY_TOO_LARGE = 2,     /* one of its five sizes is above its limit */
@@ -102,6 +116,15 @@ fly_answer fly_run(const uint8_t *table, size_t table_len, uint32_t budget, uint
 /* Prints the sheet of a table, as README says: returns its number of bytes; the rest of out is 0. A table that is refused has a sheet
  * too: the line `refused` and its number. Log and scratch of its run are on the stack. */
 uint32_t fly_sheet(const uint8_t *table, size_t table_len, uint8_t out[FLY_SHEET]);
+
+/* refused: 0, or the number of the refusal, 1 to 7; then standing is 0, and says nothing. Else standing is one of fly_stand. */
+typedef struct {
+    uint32_t refused, standing;
+} fly_standing;
+
+/* Says how rule number `rule` of a table stands by the words of a log. A table that is refused is refused as by a run, and then a rule
+ * number not below N with FLY_OUT_OF_RANGE. Nothing is written. */
+fly_standing fly_stands(const uint8_t *table, size_t table_len, uint32_t rule, const uint16_t *log, size_t log_len);
 
 #ifdef __cplusplus
 }

@@ -1,4 +1,4 @@
-/* A console that shows what is concluded while the budget grows. Usage: loop TABLE
+/* A console that shows what is concluded while the budget grows, and in the end how each rule stands. Usage: loop TABLE
  *
  * What is shown stays true: a larger budget writes the same lines, and more after them. But each call judges the table and works from
  * the start, so the calls cost the sum of what they spend. Hence the first budget is Size = A+F+N+B+P, below which nothing is
@@ -10,7 +10,8 @@
 #include <stdlib.h>
 #include <string.h>
 
-static const char *const TAGS[4] = {"+Δ", "−Δ", "+∂", "−∂"}; /* by enum fly_tag */
+static const char *const TAGS[4] = {"+Δ", "−Δ", "+∂", "−∂"};          /* by enum fly_tag */
+static const char *const STANDINGS[3] = {"fires", "is out", "waits"}; /* by enum fly_stand */
 
 static uint8_t table[FLY_MAX_BYTES + 1]; /* a byte more, so that a file that is too long is refused */
 static uint16_t lines[FLY_LOG], earlier[FLY_LOG], scratch[FLY_SCRATCH];
@@ -42,6 +43,14 @@ static void show(uint32_t from, uint32_t to) {
         printf("  %s %s%u\n", TAGS[FLY_TAG(lines[i])], FLY_OPPOSITE(lines[i]) ? "not " : "", FLY_ATOM(lines[i]));
 }
 
+/* Shows how each rule stands by the lines shown, up to the first number that is refused: no rule has it, or the table is refused. Each
+ * call judges the table anew, so the calls cost N times table and log. */
+static void show_rules(size_t n, uint32_t shown) {
+    fly_standing s = fly_stands(table, n, 0, lines, shown);
+    for (uint32_t rule = 0; !s.refused; s = fly_stands(table, n, ++rule, lines, shown))
+        printf("rule %u %s\n", rule, STANDINGS[s.standing]);
+}
+
 int main(int count, char **words) {
     if (count != 2) {
         fprintf(stderr, "usage: loop TABLE\n");
@@ -57,6 +66,7 @@ int main(int count, char **words) {
         show(shown, a.lines);
         shown = a.lines;
     }
+    show_rules(n, shown);
     fwrite(sheet, 1, fly_sheet(table, n, sheet), stdout);
     return a.refused ? 1 : 0;
 }

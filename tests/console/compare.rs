@@ -7,10 +7,12 @@
 //!
 //! For every call of fly_run: the five numbers of the answer, every word of the log's and the scratch's buffers (which reach past the
 //! lent part on both sides and hold noise before the call), and the table. For every call of fly_sheet: the length, the text, zeros
-//! past it, the bytes around the buffer, and the table. The lengths lent are around the limits: of the log the lines that the run writes
-//! under its budget, and 4A. The first mismatch is printed and ends the program with status 1: where the table comes from and what differs
-//! first (records, words, bytes and lines are counted from 0). Each of the answers must also have come often enough, and so must lines in
-//! a log below 4A words (a short log), and short logs that a larger budget outgrows, unless fewer CALLS than the default are asked for.
+//! past it, the bytes around the buffer, and the table. For every call of fly_stands: the two numbers, the log with the words around it,
+//! and the table. The lengths lent are around the limits: of the log the lines that the run writes under its budget, and 4A. By the lines
+//! of a run no rule may both fire and be out. The first mismatch is printed and ends the program with status 1: where the table comes from
+//! and what differs first (records, words, bytes and lines are counted from 0). Each of the answers must also have come often enough, and
+//! so must lines in a log below 4A words (a short log), and short logs that a larger budget outgrows, unless fewer CALLS (of fly_run) than
+//! the default are asked for.
 //!
 //! --vectors DIR: base.bin, sheets-S1.bin and short-logs.bin there, against both engines, before the CALLS.
 //! --mutant K: the test's own test, of fewer CALLS. A deliberate fault in the slow engine or in what is expected of the buffers, which
@@ -20,7 +22,7 @@
 mod slow;
 mod tables;
 
-use slow::{mutant, Answer, Run, SCRATCH};
+use slow::{mutant, Answer, Run, Standing, FIRING, OUT, SCRATCH, WAITING};
 use std::fmt::Debug;
 use std::ops::Range;
 use std::sync::atomic::Ordering::Relaxed;
@@ -37,6 +39,7 @@ extern "C" {
         scratch_len: usize,
     ) -> Answer;
     fn fly_sheet(table: *const u8, table_len: usize, out: *mut u8) -> u32;
+    fn fly_stands(table: *const u8, table_len: usize, rule: u32, log: *const u16, log_len: usize) -> Standing;
 }
 
 const SEED: u64 = 20_260;
@@ -76,6 +79,21 @@ const MUTANTS: &[&str] = &[
     "the lines that fit are written with 9",
     "scratch is left as it was with a log below 4A words",
     "a log below 4A words lacks the last line",
+    "out before firing",
+    "a rule without antecedents waits",
+    "out by −Δ",
+    "firing by +Δ",
+    "one antecedent with +∂ is enough to fire",
+    "a rule number not below N fires",
+    "a rule number cut to 16 bits",
+    "a strange rule number (5) seen before the table's refusal",
+    "words of the log past the first 4A ignored",
+    "the log's length cut to 16 bits",
+    "the log ends at the first word that is no line",
+    "a word of the log cut to 12 bits",
+    "+∂ counted by words, repeated or not",
+    "out by +∂ of an antecedent's complement too",
+    "a refusal has standing 2",
 ];
 
 struct Bench {
@@ -97,12 +115,39 @@ struct Bench {
     short: u64,    // accepted, with lines in a log below 4A words
     outgrown: u64, // lengths of log that held the lines under one budget, and were too short under a larger one
     sheets: u64,
+    standings: u64,
+    stood: [u64; 3],     // by how the rule stands, if it has antecedents
+    bodiless: u64,       // rules that have none
+    not_stood: [u64; 8], // by the number of the table's refusal
+    strange: u64,        // rule numbers not below N, of tables that are accepted
+    coherent: u64,       // logs of runs by which no rule both fires and is out
+}
+
+/// The k-th of the five sizes, or 0 if the table ends before it.
+fn size(t: &[u8], k: usize) -> usize {
+    t.get(2 * k..2 * k + 2).map_or(0, |w| u16::from_le_bytes([w[0], w[1]]) as usize)
+}
+
+fn atoms(t: &[u8]) -> usize {
+    size(t, 0)
+}
+
+fn rules(t: &[u8]) -> u32 {
+    size(t, 2) as u32
 }
 
 /// The words of a full log, 4A, or nearly all that can be lent.
 fn full_log(t: &[u8]) -> usize {
-    let full = if t.len() < 2 { 0 } else { 4 * u16::from_le_bytes([t[0], t[1]]) as usize };
-    full.min(LOG_MOST - 64)
+    (4 * atoms(t)).min(LOG_MOST - 64)
+}
+
+/// What the table is refused by, 1 to 7, or 0; 8 and 9 are about buffers.
+fn of_table(answer: &Answer) -> u32 {
+    if answer.refused < 8 {
+        answer.refused
+    } else {
+        0
+    }
 }
 
 fn less_one(n: usize) -> usize {
@@ -124,13 +169,20 @@ fn fill(words: &mut [u16], base: &[u16], seed: u64) {
     }
 }
 
-/// The first of the five numbers that differs.
-fn numbers_differ(came: &Answer, wanted: &Answer) -> Option<String> {
-    let numbers = |a: &Answer| [a.refused, a.finished, a.lines, a.worked, a.spent];
-    let names = ["refused", "finished", "lines", "worked", "spent"];
-    let (came, wanted) = (numbers(came), numbers(wanted));
-    let i = (0..5).find(|&i| came[i] != wanted[i])?;
+/// The first number that differs.
+fn numbers_differ(names: &[&str], came: &[u32], wanted: &[u32]) -> Option<String> {
+    let i = (0..names.len()).find(|&i| came[i] != wanted[i])?;
     Some(format!("{} came {} wanted {}", names[i], came[i], wanted[i]))
+}
+
+fn answers_differ(came: &Answer, wanted: &Answer) -> Option<String> {
+    let numbers = |a: &Answer| [a.refused, a.finished, a.lines, a.worked, a.spent];
+    numbers_differ(&["refused", "finished", "lines", "worked", "spent"], &numbers(came), &numbers(wanted))
+}
+
+fn standings_differ(came: &Standing, wanted: &Standing) -> Option<String> {
+    let numbers = |s: &Standing| [s.refused, s.standing];
+    numbers_differ(&["refused", "standing"], &numbers(came), &numbers(wanted))
 }
 
 /// The first element that differs, by its place from `start`.
@@ -171,6 +223,12 @@ impl Bench {
             short: 0,
             outgrown: 0,
             sheets: 0,
+            standings: 0,
+            stood: [0; 3],
+            bodiless: 0,
+            not_stood: [0; 8],
+            strange: 0,
+            coherent: 0,
         }
     }
 
@@ -260,7 +318,7 @@ impl Bench {
         self.lines.clear();
         self.lines.extend_from_slice(&log[..(answer.lines as usize).min(log_len)]);
         self.expect(&expected, &run.1, short, &log_lent, &scratch_lent);
-        let difference = numbers_differ(&answer, &expected)
+        let difference = answers_differ(&answer, &expected)
             .or_else(|| elements_differ("log word", &self.log, &self.log_expected, log_lent.start))
             .or_else(|| elements_differ("scratch word", &self.scratch, &self.scratch_expected, scratch_lent.start))
             .or_else(|| self.table_altered(at, t));
@@ -298,6 +356,80 @@ impl Bench {
             let call = format!("sheet {} after call {}", self.sheets, self.calls);
             self.mismatch(&format!("sheet: {what}"), t, format!("{call}\narchive {shown:?}\nslow    {text:?}"));
         }
+    }
+
+    /// The log with words around it, which are lines of these antecedents and would count. Returns where it begins, too.
+    fn lend_log(&mut self, log: &[u16], body: &[usize]) -> (usize, Vec<u16>) {
+        let lines: Vec<u16> = body.iter().flat_map(|&q| [4 * q + 3, 4 * q + 2]).chain([0]).map(|l| l as u16).collect();
+        let (at, around) = (self.rng.within(1, GUARD), lines.iter().cycle());
+        (at, around.clone().take(at).chain(log).chain(around.take(GUARD)).copied().collect())
+    }
+
+    /// One call of fly_stands and all that is compared for it; `judged` is the slow engine's refusal of the table, or 0.
+    fn stands(&mut self, t: &[u8], judged: u32, rule: u32, log: &[u16]) {
+        let (body, expected) = (slow::antecedents(t, rule), slow::stands(t, judged, rule, log));
+        let at = self.lend_table(t);
+        let (log_at, words) = self.lend_log(log, &body);
+        let before = words.clone();
+        let (lent, read) = (&self.table[at..at + t.len()], &words[log_at..log_at + log.len()]);
+        let standing = unsafe { fly_stands(lent.as_ptr(), lent.len(), rule, read.as_ptr(), read.len()) };
+        self.standings += 1;
+        let difference = standings_differ(&standing, &expected)
+            .or_else(|| elements_differ("log word", &words, &before, log_at))
+            .or_else(|| self.table_altered(at, t));
+        if let Some(what) = difference {
+            let call = format!("standing {} after call {} rule {rule} log_len {}", self.standings, self.calls, log.len());
+            let numbers = format!("archive {standing:?}\nslow    {expected:?}");
+            self.mismatch(&format!("standing: {what}"), t, format!("{call}\n{numbers}\nlog {log:?}"));
+        }
+        match (judged, expected.refused) {
+            (0, 0) if body.is_empty() => self.bodiless += 1,
+            (0, 0) => self.stood[expected.standing as usize] += 1,
+            (0, _) => self.strange += 1,
+            (number, _) => self.not_stood[number as usize] += 1,
+        }
+    }
+
+    /// A rule number: of a rule, or around N, or one whose lowest bits are those of a rule.
+    fn rule(&mut self, t: &[u8]) -> u32 {
+        let n = rules(t);
+        let (below, any) = (self.rng.below(n as usize) as u32, self.rng.next() as u32);
+        let high = below + (1 << self.rng.within(16, 31));
+        if self.rng.chance(3, 4) {
+            below
+        } else {
+            self.rng.pick(&[0, n.saturating_sub(1), n, n, n + 1, 65_535, 65_536 + below, high, u32::MAX, any])
+        }
+    }
+
+    /// How a rule stands by a log that is made from the archive's lines of the last call.
+    fn stands_by_any(&mut self, t: &[u8], judged: u32, rule: u32) {
+        let log = tables::log(&mut self.rng, atoms(t), &slow::antecedents(t, rule), &self.lines);
+        self.stands(t, judged, rule, &log);
+    }
+
+    /// Some rules, likewise, and numbers that are no rule's.
+    fn some_stand(&mut self, t: &[u8], judged: u32, count: usize) {
+        for _ in 0..count {
+            let rule = self.rule(t);
+            self.stands_by_any(t, judged, rule);
+        }
+    }
+
+    /// Each rule of a legal table, likewise.
+    fn all_stand(&mut self, t: &[u8]) {
+        for rule in 0..rules(t) {
+            self.stands_by_any(t, 0, rule);
+        }
+        self.coheres(t);
+    }
+
+    /// "Over the worked lines of any run, firing and out never both hold"; nor do they over the written ones, of the last call here.
+    fn coheres(&mut self, t: &[u8]) {
+        if slow::fires_and_is_out(t, &self.lines) {
+            self.mismatch("a rule fires and is out", t, format!("archive log {:?}", self.lines));
+        }
+        self.coherent += !self.lines.is_empty() as u64;
     }
 
     /// A lent length of the log that is enough for every run of the table.
@@ -372,7 +504,7 @@ impl Bench {
     }
 
     /// One length of log under rising budgets, until it is too short and from then on. Beside each call another whose log is enough;
-    /// each of these logs is a beginning of the next.
+    /// each of these logs is a beginning of the next, and some rule stands by it.
     fn rising(&mut self, t: &[u8], log_len: usize, budgets: impl IntoIterator<Item = u32>) {
         let mut before: Vec<u16> = vec![];
         let (mut served, mut outgrown) = (false, false);
@@ -389,7 +521,10 @@ impl Bench {
                 self.mismatch("a log is no beginning of the next", t, logs);
             }
             before.clone_from(&self.lines);
+            let rule = self.rule(t);
+            self.stands(t, 0, rule, &before);
         }
+        self.coheres(t);
         self.outgrown += outgrown as u64;
     }
 
@@ -429,6 +564,7 @@ impl Bench {
         budgets.sort();
         let log_len = self.rng.within(lines / 2, lines);
         self.rising(t, log_len, budgets);
+        self.some_stand(t, 0, 6);
         self.sheet(t);
     }
 
@@ -441,6 +577,9 @@ impl Bench {
             self.any(&t, budget);
             if i % 4 == 0 {
                 self.sheet(&t);
+            } else if i % 4 == 1 {
+                self.all_stand(&t);
+                self.some_stand(&t, 0, 2);
             }
         }
     }
@@ -451,17 +590,21 @@ impl Bench {
             let d = tables::small(&mut self.rng);
             let t = tables::damaged(&mut self.rng, d);
             let budget = self.budget(&t);
-            self.any(&t, budget);
+            let answer = self.any(&t, budget);
             if i % 15 == 0 {
                 self.sheet(&t);
+            } else if i % 3 == 0 {
+                self.some_stand(&t, of_table(&answer), 1);
             }
         }
         for i in 0..8 {
             let t = tables::noise(&mut self.rng);
             let budget = self.budget(&t);
-            self.any(&t, budget);
+            let answer = self.any(&t, budget);
             if i % 4 == 0 {
                 self.sheet(&t);
+            } else {
+                self.some_stand(&t, of_table(&answer), 1);
             }
         }
     }
@@ -471,11 +614,12 @@ impl Bench {
         for _ in 0..count {
             let t = tables::damaged(&mut self.rng, d.clone());
             let budget = self.budget(&t);
-            self.any(&t, budget);
+            let answer = self.any(&t, budget);
+            self.some_stand(&t, of_table(&answer), 1);
         }
     }
 
-    /// A random part of about 120 calls and 12 sheets.
+    /// A random part of about 120 calls, 12 sheets and 80 standings.
     fn round(&mut self, number: u64) {
         self.place = format!("round {number}");
         let d = tables::small(&mut self.rng);
@@ -488,6 +632,7 @@ impl Bench {
         for _ in 0..3 {
             let budget = self.budget(&t);
             self.any(&t, budget);
+            self.some_stand(&t, 0, 3);
         }
         self.sheet(&t);
         self.damaged(&d, 1);
@@ -503,6 +648,7 @@ impl Bench {
     fn fixed(&mut self) {
         self.bytes_of_case_1();
         self.lengths_lent();
+        self.long_logs();
         self.byte_counts();
         self.sizes();
         self.two_rules();
@@ -517,7 +663,8 @@ impl Bench {
             for value in 0..=255 {
                 let mut t = case_1.clone();
                 t[i] = value;
-                self.any(&t, 30);
+                let answer = self.any(&t, 30);
+                self.some_stand(&t, of_table(&answer), 1);
             }
         }
     }
@@ -534,6 +681,18 @@ impl Bench {
         self.lengths(&tables::sized(0, 512), u32::MAX);
         self.lengths(&[0; 9], 0);
         self.lengths(&tables::sized(0, 513), 0);
+    }
+
+    /// Logs of more words than 16 bits can count, the line that decides at their end.
+    fn long_logs(&mut self) {
+        for length in [4_095, 4_096, 4_097, 65_535, 65_536, 65_537, 200_000] {
+            for last in [2, 3, 0] {
+                self.place = format!("{length} words and line {last}");
+                let mut log = vec![65_535; length];
+                log.push(last);
+                self.stands(&itself(), 0, 0, &log);
+            }
+        }
     }
 
     /// Bytes of one of eight kinds.
@@ -559,7 +718,8 @@ impl Bench {
                 self.place = format!("{length} bytes of kind {kind}");
                 let t = self.bytes_of(kind, length);
                 self.any(&t, 20);
-                self.enough(&t, u32::MAX);
+                let answer = self.enough(&t, u32::MAX);
+                self.some_stand(&t, answer.refused, 1);
                 self.sheet(&t);
             }
         }
@@ -581,7 +741,8 @@ impl Bench {
         for length in [whole.len(), whole.len() - 1, whole.len() + 1, whole.len() + 4, 10, 9] {
             let mut t = whole.to_vec();
             t.resize(length, 0);
-            self.any(&t, 10_000);
+            let answer = self.any(&t, 10_000);
+            self.some_stand(&t, of_table(&answer), 1);
             self.sheet(&t);
         }
     }
@@ -593,6 +754,7 @@ impl Bench {
             let budget = self.budget(&t);
             self.enough(&t, u32::MAX);
             self.enough(&t, budget);
+            self.all_stand(&t);
         }
     }
 
@@ -616,13 +778,15 @@ impl Bench {
         for length in [whole.len() - 1, whole.len() + 1, whole.len() + 2, 32_778, 32_779, 32_780, 40_000] {
             let mut t = whole.to_vec();
             t.resize(length, 0);
-            self.any(&t, 60_000);
+            let answer = self.any(&t, 60_000);
+            self.some_stand(&t, of_table(&answer), 1);
             self.sheet(&t);
         }
         for _ in 0..10 {
             let t = tables::damaged(&mut self.rng, d.clone());
             let budget = self.budget(&t);
-            self.any(&t, budget);
+            let answer = self.any(&t, budget);
+            self.some_stand(&t, of_table(&answer), 1);
             self.sheet(&t);
         }
         for which in 0..tables::FAULTS {
@@ -643,7 +807,8 @@ impl Bench {
             (0..1_023).for_each(|i| d.pair(i, i + 1));
             last.into_iter().for_each(|(t, s)| d.pair(t, s));
             d.tidy();
-            self.enough(&d.bytes(), u32::MAX);
+            let answer = self.enough(&d.bytes(), u32::MAX);
+            self.some_stand(&d.bytes(), answer.refused, 2);
             self.sheet(&d.bytes());
         }
     }
@@ -654,12 +819,23 @@ impl Bench {
         let came = slow::call(t, &run, log_len, scratch_len);
         let lines = &run.1[..came.lines as usize];
         let difference =
-            numbers_differ(&came, &wanted.0).or_else(|| elements_differ("log word", lines, &wanted.1, 0)).filter(|_| mutant(0));
+            answers_differ(&came, &wanted.0).or_else(|| elements_differ("log word", lines, &wanted.1, 0)).filter(|_| mutant(0));
         if let Some(what) = difference {
             let call = format!("budget {budget} log_len {log_len} scratch_len {scratch_len}");
             self.mismatch(&format!("slow engine: {what}"), t, format!("{call}\nslow   {came:?} {lines:?}\nwanted {wanted:?}"));
         }
         self.call(t, budget, &run, log_len, scratch_len);
+    }
+
+    /// A standing that must be given, against both engines, likewise.
+    fn gives_standing(&mut self, t: &[u8], rule: u32, log: &[u16], wanted: &Standing) {
+        let judged = slow::judge(t);
+        let came = slow::stands(t, judged, rule, log);
+        if let Some(what) = standings_differ(&came, wanted).filter(|_| mutant(0)) {
+            let call = format!("rule {rule} log {log:?}");
+            self.mismatch(&format!("slow engine: standing: {what}"), t, format!("{call}\nslow   {came:?}\nwanted {wanted:?}"));
+        }
+        self.stands(t, judged, rule, log);
     }
 
     /// What the slow engine must print.
@@ -670,7 +846,7 @@ impl Bench {
         }
     }
 
-    /// The cases of document 01, and those of short logs, against both engines.
+    /// The cases of document 01, those of short logs and those of standings, against both engines.
     fn cases(&mut self) {
         for (name, t, budget, numbers, log) in cases() {
             self.place = format!("document 01: {name}");
@@ -687,6 +863,24 @@ impl Bench {
             self.place = format!("document 01: {name}");
             self.slow_prints(&t, text);
             self.sheet(&t);
+        }
+        self.standing_cases();
+    }
+
+    fn standing_cases(&mut self) {
+        for (name, t, rule, log, standing) in standings() {
+            self.place = format!("document 02, S-3: {name}");
+            self.gives_standing(&t, rule, log, &Standing { refused: 0, standing });
+        }
+        for rule in [2, 3, 65_535, 65_536, 65_537, 1 << 31, u32::MAX] {
+            self.place = format!("document 02, S-3: rule {rule} of case 1");
+            self.gives_standing(&case_1(), rule, &[0, 2], &Standing { refused: 5, standing: 0 });
+        }
+        for (number, t) in (1..).zip(refused()) {
+            for rule in [0, 1, 2, 3, 65_536, u32::MAX] {
+                self.place = format!("document 02, S-3: rule {rule} of a table refused by {number}");
+                self.gives_standing(&t, rule, &[0, 2], &Standing { refused: number, standing: 0 });
+            }
         }
     }
 
@@ -741,18 +935,37 @@ impl Bench {
         println!("short logs accepted {}", self.short);
         println!("short logs outgrown {}", self.outgrown);
         println!("sheets {}", self.sheets);
+        println!("standings {}", self.standings);
+        for k in 1..=7 {
+            println!("standings refused {k}: {}", self.not_stood[k]);
+        }
+        println!("rule numbers refused {}", self.strange);
+        println!("firing {}", self.stood[FIRING as usize]);
+        println!("out {}", self.stood[OUT as usize]);
+        println!("waiting {}", self.stood[WAITING as usize]);
+        println!("firing without antecedents {}", self.bodiless);
+        println!("coherent logs {}", self.coherent);
         println!("mismatches 0");
+        self.often();
+        std::process::exit(0)
+    }
+
+    /// Each answer must have come often enough.
+    fn often(&self) {
         let often = self.refused[1..].iter().all(|&n| n >= 500)
             && [self.stopped, self.finished, self.refused[9], self.short].iter().all(|&n| n >= 10_000)
             && self.outgrown >= 1_000
             && self.calls >= 200_000
-            && self.sheets >= 20_000;
+            && self.sheets >= 20_000
+            && self.not_stood[1..].iter().all(|&n| n >= 500)
+            && self.stood.iter().chain([&self.bodiless, &self.strange, &self.coherent]).all(|&n| n >= 10_000)
+            && self.standings >= 200_000;
         if self.last >= CALLS && !often {
             println!("FAILED: an answer came too seldom (refusals 500; 9, stopped, finished and short logs accepted 10,000;");
-            println!("short logs outgrown 1,000; calls 200,000; sheets 20,000)");
+            println!("short logs outgrown 1,000; calls 200,000; sheets 20,000; standings refused 500; rule numbers refused,");
+            println!("firing, firing without antecedents, out, waiting and coherent logs 10,000; standings 200,000)");
             std::process::exit(1);
         }
-        std::process::exit(0)
     }
 }
 
@@ -845,6 +1058,46 @@ fn short_logs() -> Vec<ShortLog> {
         ("a rule from a literal to itself, 2 words for 2 lines", itself(), 3, 2, [0, 0, 2, 0, 3], &own[..2]),
         ("a rule from a literal to itself, 1 word for 2 lines", itself(), 3, 1, nine, &[]),
         ("a rule from a literal to itself, no words for no lines", itself(), 2, 0, [0; 5], &[]),
+    ]
+}
+
+/// What it is, the table, the rule, the log and how the rule stands.
+type Stands = (&'static str, Vec<u8>, u32, &'static [u16], u32);
+
+fn standings() -> Vec<Stands> {
+    let one: &[u16] = &[0, 5, 9, 13, 2, 7, 10, 15];
+    let two = table(2, &[], &[(2, 2, &[0, 3]), (0, 2, &[1])], &[]);
+    vec![
+        ("case 1, rule 0", case_1(), 0, one, FIRING),
+        ("case 1, rule 1, which has no antecedents", case_1(), 1, one, FIRING),
+        ("case 1, rule 0, no lines", case_1(), 0, &[], WAITING),
+        ("case 1, rule 1, no lines", case_1(), 1, &[], FIRING),
+        ("case 1, rule 0, the lines of the opening", case_1(), 0, &one[..4], WAITING),
+        ("case 1, rule 0, the lines of budget 13", case_1(), 0, &one[..6], FIRING),
+        ("a rule from a literal to itself", itself(), 0, &[1, 5, 7], WAITING),
+        ("a rule from a literal to itself, −∂", itself(), 0, &[3], OUT),
+        ("a rule from a literal to itself, −∂ and +∂", itself(), 0, &[3, 2], FIRING),
+        ("a rule from a literal to itself, +∂ past the log's 4A words", itself(), 0, &[1, 1, 1, 1, 2], FIRING),
+        ("a rule from a literal to itself, words past 8A", itself(), 0, &[8, 10, 4_098, 4_099, 65_535], WAITING),
+        ("two antecedents, +∂ of the first, twice", two.clone(), 0, &[2, 2], WAITING),
+        ("two antecedents, +∂ of the second", two.clone(), 0, &[14], WAITING),
+        ("two antecedents, +∂ of both", two.clone(), 0, &[14, 2], FIRING),
+        ("two antecedents, +∂ of the first and −∂ of the second", two.clone(), 0, &[2, 15], OUT),
+        ("two antecedents, +∂ of both complements", two.clone(), 0, &[6, 10], WAITING),
+        ("two antecedents, +∂ of both and −∂ of another rule's", two, 0, &[7, 2, 14], FIRING),
+    ]
+}
+
+/// A table for each of the refusals 1 to 7.
+fn refused() -> [Vec<u8>; 7] {
+    [
+        vec![1; 9],
+        tables::sized(0, 513),
+        case_1()[..29].to_vec(),
+        table(1, &[2], &[(3, 0, &[])], &[]),
+        table(1, &[2, 0], &[(1, 0, &[])], &[]),
+        table(1, &[1, 0], &[(1, 0, &[])], &[(0, 0)]),
+        opposed(&[(0, 1), (1, 0)]),
     ]
 }
 

@@ -173,8 +173,26 @@ static void runs(const table *t, uint32_t budget, size_t log_len, size_t scratch
     table_left(call, bytes, t);
 }
 
+/* How a rule stands by these words, which are in a buffer of their own. */
+static void stands(const table *t, uint32_t rule, const uint16_t *words, size_t n, fly_standing want) {
+    char call[128];
+    snprintf(call, sizeof call, "%s (rule %u, log %zu)", t->name, (unsigned)rule, n);
+    uint8_t *bytes = lend_table(t);
+    uint16_t *log = guarded(2 * n);
+    memcpy(log, words, 2 * n);
+    fly_standing s = fly_stands(bytes, t->n, rule, log, n);
+    same(call, "refused", NUMBER, s.refused, want.refused);
+    same(call, "standing", NUMBER, s.standing, want.standing);
+    for (size_t i = 0; i < n; i++) same(call, "log word", i, log[i], words[i]);
+    give_back(log, 2 * n);
+    table_left(call, bytes, t);
+}
+
+/* The table's refusal comes before that of a rule number. */
 static void refuses(const table *t, uint32_t number) {
+    static const uint32_t NUMBERS[4] = {0, 1, 65536, UINT32_MAX};
     runs(t, 19, FLY_LOG, FLY_SCRATCH + MORE, (fly_answer){number, 0, 0, 0, 0});
+    for (size_t i = 0; i < 4; i++) stands(t, NUMBERS[i], LOG_1, 8, (fly_standing){number, 0});
 }
 
 static void prints(const table *t) {
@@ -215,6 +233,34 @@ static void short_logs(void) {
     runs(&LIMITS, FLY_MAX_SPENT, FLY_LOG - 1, FLY_SCRATCH, nine);
 }
 
+/* ---- how a rule stands ---- */
+
+static const fly_standing FIRING = {0, FLY_FIRING}, OUT = {0, FLY_OUT}, WAITING = {0, FLY_WAITING}, STRANGE = {FLY_OUT_OF_RANGE, 0};
+
+static void standings(void) {
+    static const uint16_t BOTH[2] = {3, 2};                          /* −∂ and +∂ of literal 0 */
+    static const uint16_t NO_LINES[4] = {8, 4098, 4099, UINT16_MAX}; /* of a table of one atom */
+    static const uint16_t REPEATED[6] = {1, 5, 7, 1, 65535, 2};      /* and more than 4A words */
+    stands(&CASE_1, 0, LOG_1, 8, FIRING);
+    stands(&CASE_1, 1, LOG_1, 8, FIRING);
+    stands(&CASE_1, 0, LOG_1, 4, WAITING);
+    stands(&CASE_1, 0, LOG_1, 0, WAITING);
+    stands(&CASE_1, 1, LOG_1, 0, FIRING); /* it has no antecedents */
+    stands(&CASE_1, 2, LOG_1, 8, STRANGE);
+    stands(&CASE_1, 65536, LOG_1, 8, STRANGE);
+    stands(&CASE_1, UINT32_MAX, LOG_1, 0, STRANGE);
+    stands(&ITSELF, 0, ITSELF_LOG, 3, WAITING);
+    stands(&ITSELF, 0, NO_LINES, 4, WAITING);
+    stands(&ITSELF, 0, BOTH, 1, OUT);
+    stands(&ITSELF, 0, BOTH, 2, FIRING);
+    stands(&ITSELF, 0, REPEATED, 5, WAITING);
+    stands(&ITSELF, 0, REPEATED, 6, FIRING);
+    stands(&LIMITS, 511, limits_log, FACTS + 7, WAITING); /* +∂ of its last antecedent, literal 7, is the next line */
+    stands(&LIMITS, 511, limits_log, FACTS + 8, FIRING);
+    stands(&LIMITS, RULES - 1, limits_log, FLY_LOG, FIRING);
+    stands(&LIMITS, RULES, limits_log, FLY_LOG, STRANGE);
+}
+
 /* ---- threads ---- */
 
 static void *again(void *unused) {
@@ -224,6 +270,8 @@ static void *again(void *unused) {
         runs(&CASE_1, 13, 7, FLY_SCRATCH, (fly_answer){0, 0, 6, 4, 11});
         runs(&CASE_1, 19, 7, FLY_SCRATCH, (fly_answer){FLY_SHORT_LOG, 0, 0, 0, 0});
         prints(&CASE_1);
+        stands(&CASE_1, 0, LOG_1, 8, FIRING);
+        stands(&CASE_1, 0, LOG_1, 4, WAITING);
     }
     return unused;
 }
@@ -242,10 +290,10 @@ enum { STACK = 1 << 20 };
 
 static void *no_call(void *of) { return of; }
 
-/* A call, by its table; of a run also the budget, the words of log and the refusal that comes of them. */
+/* A call, by its table; also the budget of a run or the rule that stands, the words of log and the refusal that comes of them. */
 typedef struct {
     const table *of;
-    uint32_t budget;
+    uint32_t number;
     size_t log_len;
     uint32_t refused;
 } one_call;
@@ -254,7 +302,7 @@ typedef struct {
 static void *run_call(void *call) {
     static uint16_t log[FLY_LOG], scratch[FLY_SCRATCH + MORE];
     const one_call *c = call;
-    CHECK(fly_run(c->of->bytes, c->of->n, c->budget, log, c->log_len, scratch, FLY_SCRATCH + MORE).refused == c->refused);
+    CHECK(fly_run(c->of->bytes, c->of->n, c->number, log, c->log_len, scratch, FLY_SCRATCH + MORE).refused == c->refused);
     return call;
 }
 
@@ -262,6 +310,12 @@ static void *sheet_call(void *call) {
     static uint8_t out[FLY_SHEET];
     const one_call *c = call;
     fly_sheet(c->of->bytes, c->of->n, out);
+    return call;
+}
+
+static void *stands_call(void *call) {
+    const one_call *c = call;
+    CHECK(fly_stands(c->of->bytes, c->of->n, c->number, c->of->lines, c->log_len).refused == c->refused);
     return call;
 }
 
@@ -301,10 +355,15 @@ static void stack_use(void) {
                                           {&ITSELF, UINT32_MAX, 3, 0},
                                           {&LIMITS, ALL_BUT_ONE, FLY_LOG - 1, 0},
                                           {&LIMITS, UINT32_MAX, FLY_LOG - 1, FLY_SHORT_LOG}};
+    static const one_call STANDINGS[] = {{&CASE_1, 0, 8, 0},
+                                         {&LIMITS, 511, FLY_LOG, 0},
+                                         {&LIMITS, 511, FACTS, 0},
+                                         {&LIMITS, RULES, FLY_LOG, FLY_OUT_OF_RANGE}};
     size_t run = stack_of("the run", run_call, FULL, 2, FLY_RUN_STACK);
     size_t short_log = stack_of("the short-log run", run_call, SHORT_LOGS, 5, FLY_SHORT_LOG_STACK);
     size_t sheet = stack_of("the sheet", sheet_call, FULL, 2, FLY_SHEET_STACK);
-    printf("stack: run %zu bytes, with a short log %zu bytes, sheet %zu bytes\n", run, short_log, sheet);
+    size_t standing = stack_of("the standing", stands_call, STANDINGS, 4, FLY_STANDS_STACK);
+    printf("stack: run %zu bytes, with a short log %zu bytes, sheet %zu bytes, standing %zu bytes\n", run, short_log, sheet, standing);
 }
 #else
 static void stack_use(void) {}
@@ -323,6 +382,8 @@ int main(void) {
     runs(&CASE_1, 19, 0, 0, (fly_answer){FLY_SHORT_SCRATCH, 0, 0, 0, 0});
     runs(&LIMITS, FLY_MAX_SPENT, FLY_LOG, FLY_SCRATCH, (fly_answer){0, 1, 2048, 2048, 20302});
     short_logs();
+    standings();
+    refuses(&NOTHING, FLY_TRUNCATED);
     refuses(&STUB, FLY_TRUNCATED);
     refuses(&SHORT, FLY_WRONG_LENGTH);
     refuses(&CIRCLE, FLY_CYCLIC);

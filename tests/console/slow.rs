@@ -1,4 +1,4 @@
-//! A slow engine, written from document 01 and from S-1 and S-2 of document 02, sentence by sentence. The quoted lines are the
+//! A slow engine, written from document 01 and from S-1 to S-3 of document 02, sentence by sentence. The quoted lines are the
 //! documents' own. What is held is a `Vec<bool>` indexed by the number of a line, and every inference rule is a direct quantification
 //! over rules and antecedents.
 
@@ -24,6 +24,18 @@ pub struct Answer {
 
 /// An answer, and the lines in the order of the log.
 pub type Run = (Answer, Vec<u16>);
+
+/// How a rule stands, in the two numbers of flyrules.h. With a refusal the second is 0.
+#[repr(C)]
+#[derive(Clone, Copy, PartialEq, Eq, Debug)]
+pub struct Standing {
+    pub refused: u32,
+    pub standing: u32,
+}
+
+pub const FIRING: u32 = 0;
+pub const OUT: u32 = 1;
+pub const WAITING: u32 = 2;
 
 pub const SCRATCH: usize = 32_768;
 
@@ -461,6 +473,72 @@ pub fn sheet(bytes: &[u8]) -> String {
         text += &format!("{a} {verdict}\n");
     }
     text + &format!("spent {} of {}\n", answer.spent, theory.bound)
+}
+
+/// The antecedents of a rule by the entries, "left a rule, right an antecedent"; none for a number that no entry has, or for a table that
+/// cannot be read.
+pub fn antecedents(bytes: &[u8], rule: u32) -> Vec<usize> {
+    let entries = sections(bytes).map_or(vec![], |s| s.entries);
+    entries.into_iter().filter(|&(r, _)| r == rule as usize).map(|(_, q)| q).collect()
+}
+
+/// Document 02, S-3: "three answers, the first that fits: firing (all have +∂), out (one has −∂), waiting (neither)", of a rule with these
+/// antecedents by the words of a log, whatever they are.
+fn standing(body: &[usize], log: &[u16]) -> u32 {
+    let has = |q: usize, tag: usize| log.contains(&(line(q, tag) as u16));
+    let has_plus = |q: usize| has(q, if mutant(31) { PLUS_DELTA } else { PLUS_PARTIAL });
+    let has_minus = |q: usize| has(q, if mutant(30) { MINUS_DELTA } else { MINUS_PARTIAL });
+    let words_with_plus = || log.iter().filter(|&&w| body.iter().any(|&q| w as usize == line(q, PLUS_PARTIAL))).count();
+    let fires = body.iter().all(|&q| has_plus(q)) && !(mutant(29) && body.is_empty())
+        || mutant(32) && body.iter().any(|&q| has_plus(q))
+        || mutant(40) && words_with_plus() >= body.len();
+    let out = body.iter().any(|&q| has_minus(q) || mutant(41) && has(complement(q), PLUS_PARTIAL));
+    if fires && !(mutant(28) && out) {
+        FIRING
+    } else if out {
+        OUT
+    } else {
+        WAITING
+    }
+}
+
+/// The log as a deliberate fault reads it; without one, as it is.
+fn misread(a: usize, log: &[u16]) -> Vec<u16> {
+    let end = if mutant(36) {
+        log.len().min(4 * a)
+    } else if mutant(37) {
+        log.len() % 65_536
+    } else if mutant(38) {
+        log.iter().take_while(|&&w| (w as usize) < 8 * a).count()
+    } else {
+        log.len()
+    };
+    log[..end].iter().map(|&w| if mutant(39) { w % 4_096 } else { w }).collect()
+}
+
+/// How a rule stands in a table that `judge` gives this number. Refusals 1 to 7 are the table's; then comes "5 stranger: .. a rule number
+/// not below N".
+pub fn stands(bytes: &[u8], judged: u32, rule: u32, log: &[u16]) -> Standing {
+    let refusal = |number: u32| Standing { refused: number, standing: if mutant(42) { WAITING } else { 0 } };
+    let rule = if mutant(34) { rule % 65_536 } else { rule };
+    let strange = sections(bytes).is_ok_and(|s| rule as usize >= s.rules.len());
+    if judged != 0 && !(mutant(35) && strange) {
+        return refusal(judged);
+    }
+    if strange && !mutant(33) {
+        return refusal(5);
+    }
+    Standing { refused: 0, standing: standing(&antecedents(bytes, rule), &misread(word(bytes, 0), log)) }
+}
+
+/// Whether some rule of an accepted table has +∂ of all its antecedents and −∂ of one among these lines.
+pub fn fires_and_is_out(bytes: &[u8], lines: &[u16]) -> bool {
+    let theory = theory(bytes);
+    let mut held = vec![false; 8 * theory.a];
+    for &l in lines {
+        held[l as usize] = true;
+    }
+    (0..theory.rules.len()).any(|r| theory.all(&held, r, PLUS_PARTIAL) && theory.some(&held, r, MINUS_PARTIAL))
 }
 
 /// The bound "5A+F+N+3B+3P" and Size of an accepted table, for choosing budgets.

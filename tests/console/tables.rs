@@ -1,4 +1,4 @@
-//! Seeded tables for the comparison: legal ones of many shapes, damaged ones, and bytes that were never a table.
+//! Seeded tables for the comparison: legal ones of many shapes, damaged ones, and bytes that were never a table; and logs to read.
 
 /// splitmix64
 pub struct Rng(pub u64);
@@ -714,4 +714,75 @@ pub fn sized(k: usize, value: usize) -> Vec<u8> {
     let mut bytes: Vec<u8> = sizes.iter().flat_map(|&s| (s as u16).to_le_bytes()).collect();
     bytes.resize(10 + 4 * t, 0);
     bytes
+}
+
+/// Lines of these antecedents, in any order: often +∂ of all, with −∂ beside it or without.
+fn tagged(r: &mut Rng, body: &[usize]) -> Vec<u16> {
+    let delta = r.pick(&[0, 3, 12]);
+    let chances = [delta, delta, r.pick(&[4, 10, 12, 12]), r.pick(&[0, 0, 1, 6])];
+    let mut lines = vec![];
+    for &q in body {
+        for tag in 0..4 {
+            if r.chance(chances[tag], 12) {
+                lines.push((4 * q + tag) as u16);
+            }
+        }
+    }
+    r.order(lines.len()).into_iter().map(|i| lines[i]).collect()
+}
+
+/// A word of a log taken out, changed or put in. The new one is a line of an antecedent or of its complement, a line again, no line of
+/// the table though its lowest bits are those of one, or any word.
+fn disturb(r: &mut Rng, a: usize, body: &[usize], log: &mut Vec<u16>) {
+    let near = if body.is_empty() { r.below(8 * a) } else { 4 * (r.pick(body) ^ r.below(2)) + r.below(4) };
+    let again = if log.is_empty() { near } else { r.pick(log) as usize };
+    let (past, any) = (4_096 * r.within(1, 15) + near, r.below(65_536));
+    let word = r.pick(&[near, near, again, again, past, 8 * a + near, 8 * a, 65_535, any]) as u16;
+    let at = r.below(log.len() + 1);
+    match r.below(4) {
+        0 if at < log.len() => {
+            log.remove(at);
+        }
+        1 if at < log.len() => log[at] = word,
+        _ => log.insert(at, word),
+    }
+}
+
+/// Thousands of words, all alike or of one kind, and the log before them, behind them or among them.
+fn lengthen(r: &mut Rng, a: usize, log: &mut Vec<u16>) {
+    let (kind, length) = (r.below(4), r.within(1_000, 4_000));
+    let more: Vec<u16> = (0..length)
+        .map(|_| match kind {
+            0 => r.next() as u16,
+            // Δ lines
+            1 => (4 * r.below(2 * a) + r.below(2)) as u16,
+            2 => (8 * a) as u16,
+            _ => 65_535,
+        })
+        .collect();
+    let at = r.below(length);
+    let at = r.pick(&[0, at, length, length]);
+    *log = [&more[..at], log, &more[at..]].concat();
+}
+
+/// A log to read for a rule with these antecedents, of a table of `a` atoms: from the lines of a run, lines of the antecedents, any lines
+/// or any words, with changes or without.
+pub fn log(r: &mut Rng, a: usize, body: &[usize], lines: &[u16]) -> Vec<u16> {
+    let count = r.below(4 * a.min(LIMITS[0]) + 1);
+    let mut log = match r.below(8) {
+        0 => vec![],
+        1 => lines.to_vec(),
+        // those worked, perhaps
+        2 => lines[..r.below(lines.len() + 1)].to_vec(),
+        3 => (0..count).map(|_| r.below(8 * a) as u16).collect(),
+        4 => (0..count).map(|_| r.next() as u16).collect(),
+        _ => tagged(r, body),
+    };
+    for _ in 0..r.pick(&[0, 0, 1, 2, 6]) {
+        disturb(r, a, body, &mut log);
+    }
+    if r.chance(1, 24) {
+        lengthen(r, a, &mut log);
+    }
+    log
 }

@@ -1,10 +1,14 @@
 // The functions that a console written in C links (include/flyrules.h), on numbers and slices alone. Each calls one proved function,
 // whose contract is handed on whole.
+ghost use mathlib.Core.Path.{_≡_};
 ghost use Rattle.engine.specs.Answers.{Ran};
 ghost use Rattle.report.specs.Sheet.{Printed};
+ghost use Rattle.standing.specs.Answers.{standingOf};
 use engine::answer::Numbers;
 use engine::run::run;
 use report::sheet::sheet_of;
+use standing::answer::StandingNumbers;
+use standing::stands::stands;
 
 #[no_mangle]
 pub extern "C" fn fly_run(
@@ -26,4 +30,11 @@ pub extern "C" fn fly_sheet(table: &[u8], out: &mut [u8; 5041]) -> u32
     let bytes = sheet.bytes;
     *out = bytes;
     sheet.length as u32
+}
+
+#[no_mangle]
+pub extern "C" fn fly_stands(table: &[u8], rule: u32, log: &[u16]) -> StandingNumbers
+    ensures { λ r. ⌜ r ≡ standingOf (now (table .entry)) rule (now (log .entry)) ⌝ }
+{
+    stands(table, rule, log).numbers()
 }

@@ -1,11 +1,12 @@
 -- Laws of the tests of a rule's antecedents, over the tag. Assumes nothing.
 use Prim.Native.Nat.{ℕ}
+use mathlib.Core.Path.{_≡_, sym, subst}
 use mathlib.Core.Bool.{Bool}
 use lib.Dec.{T}
 use Rattle.logic.specs.Tests.{isnt, member, empty}
 use Rattle.logic.specs.Theory.{Theory, bodyOf}
 use Rattle.logic.specs.Inference.{allHave, oneHas}
-use Rattle.logic.proofs.Tests.{everyOf-intro, everyOf-elim, someOf-intro, someOf-elim}
+use Rattle.logic.proofs.Tests.{everyOf-intro, everyOf-elim, someOf-intro, someOf-elim, test-eq}
 use Rattle.logic.proofs.Lists.{filled-elim}
 
 module _ (d : Theory) (h k : ℕ → ℕ → Bool) (t r : ℕ) where
@@ -17,6 +18,14 @@ module _ (d : Theory) (h k : ℕ → ℕ → Bool) (t r : ℕ) where
   pub one-moves : ((a : ℕ) → T (member a (bodyOf d r)) → T (h a t) → T (k a t)) → T (oneHas d h t r) → T (oneHas d k t r)
   unfolding oneHas
   one-moves f u = let (a, m, v) = someOf-elim (bodyOf d r) (λ b. h b t) u in someOf-intro (bodyOf d r) (λ b. k b t) a m (f a m v)
+
+-- two tests that agree on a rule's antecedents
+module _ (d : Theory) (h k : ℕ → ℕ → Bool) (t r : ℕ) (e : (a : ℕ) → T (member a (bodyOf d r)) → h a t ≡ k a t) where
+  pub all-same : allHave d h t r ≡ allHave d k t r
+  all-same = test-eq _ _ (all-moves d h k t r (λ a m. subst T (e a m))) (all-moves d k h t r (λ a m. subst T (sym (e a m))))
+
+  pub one-same : oneHas d h t r ≡ oneHas d k t r
+  one-same = test-eq _ _ (one-moves d h k t r (λ a m. subst T (e a m))) (one-moves d k h t r (λ a m. subst T (sym (e a m))))
 
 -- not all antecedents have a tag where one has a tag that excludes it
 pub all-one : (d : Theory) (h : ℕ → ℕ → Bool) (t u r : ℕ) → ((a : ℕ) → T (h a t) → T (h a u) → ⊥) → T (allHave d h t r) → T (oneHas d h u r) → ⊥

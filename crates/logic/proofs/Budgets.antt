@@ -138,6 +138,11 @@ module _ (s : System) (w : Lawful s) where
   unfolding started
   started-within budget h = proceed-keeps s (λ _ _ spent. spent ≤ budget) budget (λ done x xs spent f l. omega arith) _ [] (initial s) (s .start) h
 
+  -- the log is a derivation
+  pub run-derives : (budget : ℕ) → T (derivation s (logOf (run s budget)))
+  unfolding started derivesFrom
+  run-derives budget = run-cases s (λ o. T (derivation s (logOf o))) budget (λ _. started-sound budget .derives) (λ _. tt)
+
   started-stops : (budget : ℕ) → s .start ≤ budget → (x : ℕ) (xs : List ℕ) → started budget .pending ≡ x ∷ xs → budget < started budget .spent + costAfter s (started budget .processed) x
   unfolding started Stops
   started-stops budget h = proceed-stops (budget - s .start) budget [] (initial s) (s .start) h (le-refl _)
@@ -210,10 +215,10 @@ module _ (s : System) (w : Lawful s) (most : ℕ) (g : Weighed s most) where
 
   -- Demands 2 and 3, for every budget.
   pub demands : (plenty : ℕ) → s .start ≤ plenty → most ≤ plenty → (budget : ℕ) → Demands s most plenty budget
-  unfolding started derivesFrom distinct
+  unfolding started distinct
   demands plenty a b budget =
       record {
-        isDerivation = run-cases s (λ o. T (derivation s (logOf o))) budget (λ _. started-sound s w budget .derives) (λ _. tt);
+        isDerivation = run-derives s w budget;
         once = run-cases s (λ o. T (distinct (logOf o))) budget (λ _. started-sound s w budget .once) (λ _. tt);
         exact = run-cases s (λ o. T (o .finished) → (x : ℕ) → T (member x (logOf o)) ↔ Derivable s x) budget (λ _. started-exact s w budget) (λ _ t. absurd t);
         finishes = run-cases s (λ o. T (o .finished) ↔ ((s .start ≤ budget) × (o .pending ≡ []))) budget

@@ -1,4 +1,4 @@
--- Coherence: a derivation never holds a conclusion and its opposite, the number with the lowest bit flipped. Assumes nothing.
+-- Coherence: a derivation never holds a conclusion and its opposite. Assumes nothing.
 use Prim.Native.Nat.{ℕ, _+_, _*_, _/_, _≤_, _<_}
 use native.Mathlib.Omega.{arith}
 use mathlib.Core.Path.{_≡_, sym, _∙_, ap, subst}
@@ -9,15 +9,17 @@ use lib.Dec.{T}
 use lib.ListN.{length}
 use Rattle.logic.specs.Tests.{member, distinct, total, weigh}
 use Rattle.logic.specs.Theory.{complement}
-use Rattle.logic.specs.System.{System, held, derivesFrom, derivation}
+use Rattle.logic.specs.System.{System, held, Coherent, derivesFrom, derivation}
 use Rattle.logic.proofs.Lists.{member-snoc, member-nil, snoc-append}
 use Rattle.logic.proofs.Sums.{total-le, total-const, total-grid, weigh-le}
 use Rattle.logic.proofs.Pigeon.{distinct-count}
 use Rattle.logic.proofs.Derivations.{Lawful, derives-infers, derives-later, derives-infers-all, derivation-snoc, derives-below}
 use Rattle.logic.proofs.Literals.{complement-complement, complement-other}
 
-unfoldable pub Coherent : (ℕ → Bool) → Type 0
-Coherent h = (x : ℕ) → T (h x) → T (h (complement x)) → ⊥
+-- what is held by a coherent test is coherent
+pub part-coherent : (h k : ℕ → Bool) → ((x : ℕ) → T (h x) → T (k x)) → Coherent k → Coherent h
+unfolding Coherent
+part-coherent h k f c x t u = c x (f x t) (f (complement x) u)
 
 -- where nothing coherent infers a conclusion and its opposite
 unfoldable pub Opposed : System → Type 0

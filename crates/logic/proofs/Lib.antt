@@ -14,6 +14,7 @@ pub mod Coherence
 pub mod Candidates
 pub mod Readings
 pub mod Bodies
+pub mod Standing
 pub mod Costs
 pub mod Plain
 pub mod Pairs

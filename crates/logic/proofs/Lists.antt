@@ -10,7 +10,7 @@ use lib.Dec.{T, eqb, eqb→eq, eqb-refl}
 use lib.ListN.{length, getD, take, drop, length-append, length-map, take-append-drop, List·getD-append}
 use lib.Seq.{getD-at, drop-cons}
 use Rattle.logic.specs.Tests.{_and_, _or_, isnt, someOf, member, empty, distinct, upto, pick}
-use Rattle.logic.proofs.Tests.{cond-true, cond-false, cond-cases, and-intro, and-left, and-right, or-left, or-right, or-elim, isnt-intro, isnt-elim, lt-suc-cases}
+use Rattle.logic.proofs.Tests.{cond-true, cond-false, cond-cases, and-intro, and-left, and-right, or-left, or-right, or-elim, isnt-intro, isnt-elim, lt-suc-cases, test-eq}
 
 pub member-cons-elim : (x y : ℕ) (l : List ℕ) → T (member x (y ∷ l)) → (x ≡ y) ⊎ T (member x l)
 unfolding someOf
@@ -53,6 +53,12 @@ member-last l x = member-right x l (x ∷ []) (member-here x [])
 
 pub member-snoc : (l : List ℕ) (x y : ℕ) → T (member y (l ++ (x ∷ []))) → T (member y l) ⊎ (y ≡ x)
 member-snoc l x y t = ⊎-elim (λ u. inl u) (λ u. inr (member-one y x u)) (member-append y l (x ∷ []) t)
+
+pub member-more : (l : List ℕ) (x y : ℕ) → member y l or eqb y x ≡ member y (l ++ (x ∷ []))
+member-more l x y =
+    test-eq _ _
+    (λ t. ⊎-elim (λ u. member-left y l (x ∷ []) u) (λ u. subst (λ z. T (member y (l ++ (z ∷ [])))) (eqb→eq y x u) (member-last l y)) (or-elim _ _ t))
+    (λ t. ⊎-elim (λ u. or-left _ _ u) (λ e. or-right _ _ (subst (λ z. T (eqb y z)) e (eqb-refl y))) (member-snoc l x y t))
 
 pub snoc-append : (l : List ℕ) (x : ℕ) (m : List ℕ) → (l ++ (x ∷ [])) ++ m ≡ l ++ (x ∷ m)
 snoc-append l x m = append-assoc l (x ∷ []) m
@@ -165,6 +171,18 @@ pick-le [] p = omega arith
 pick-le (x ∷ l) p =
     let rest : length (pick l p) ≤ length l = pick-le l p in
     cond-cases (λ k. length k ≤ suc (length l)) (p x) (x ∷ pick l p) (pick l p) (λ _. omega arith) (λ _. omega arith)
+
+-- two tests of which no number passes both
+apart-step : (x : ℕ) (a b : Bool) (l k m : List ℕ) → (T a → T b → ⊥) → length l + length k ≤ length m → length (cond a (x ∷ l) l) + length (cond b (x ∷ k) k) ≤ suc (length m)
+apart-step x true true l k m n h = absurd (n tt tt)
+apart-step x true false l k m n h = omega arith
+apart-step x false true l k m n h = omega arith
+apart-step x false false l k m n h = omega arith
+
+pub pick-apart : (l : List ℕ) (p q : ℕ → Bool) → ((x : ℕ) → T (p x) → T (q x) → ⊥) → length (pick l p) + length (pick l q) ≤ length l
+unfolding pick
+pick-apart [] p q n = omega arith
+pick-apart (x ∷ l) p q n = apart-step x (p x) (q x) (pick l p) (pick l q) l (n x) (pick-apart l p q n)
 
 -- a list has the same that pass by two tests that agree on it
 pub pick-same : (l : List ℕ) (p q : ℕ → Bool) → ((y : ℕ) → T (member y l) → q y ≡ p y) → pick l q ≡ pick l p

@@ -10,7 +10,7 @@ use lib.Dec.{T, eqb, eqb→eq}
 use Rattle.logic.specs.Tests.{_and_, _or_, isnt, _implies_, every, member}
 use Rattle.logic.specs.Theory.{Theory, complement, isStrict, kindOf, headOf, bodyOf, strictFor, supporter, attacker, size, proper}
 use Rattle.logic.specs.Inference.{+Δ, −Δ, +∂, −∂, allHave, oneHas, definitely, notDefinitely, countered, defeasibly, uncountered, notDefeasibly, follows}
-use Rattle.logic.specs.System.{held, derivation}
+use Rattle.logic.specs.System.{held, Coherent, derivation}
 use Rattle.logic.specs.Worklist.{logOf, lines, run}
 use Rattle.logic.specs.Reading.{visits, candidates, tags, familyOf, systemOf}
 use Rattle.logic.specs.Plain.{plain, plainSystem, bound}
@@ -21,7 +21,7 @@ use Rattle.logic.proofs.Bodies.{all-moves, one-moves, all-one}
 use Rattle.logic.proofs.Theories.{heads-below}
 use Rattle.logic.proofs.Derivations.{Lawful, derives-all-below}
 use Rattle.logic.proofs.Budgets.{Weighed, demands}
-use Rattle.logic.proofs.Coherence.{Coherent, derivation-coherent, coherent-length}
+use Rattle.logic.proofs.Coherence.{derivation-coherent, coherent-length}
 use Rattle.logic.proofs.Readings.{Rules, system-lawful, system-opposed}
 use Rattle.logic.proofs.Costs.{reading-weighed}
 

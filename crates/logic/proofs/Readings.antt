@@ -8,9 +8,10 @@ use mathlib.Core.Bool.{Bool}
 use lib.Dec.{T}
 use Rattle.logic.specs.Tests.{member}
 use Rattle.logic.specs.Theory.{Theory, complement, headOf}
+use Rattle.logic.specs.System.{Coherent}
 use Rattle.logic.specs.Reading.{Reading, tags, familyOf, conclusion, candidates, taggedBy, systemOf}
 use Rattle.logic.proofs.Derivations.{Lawful}
-use Rattle.logic.proofs.Coherence.{Coherent, Opposed}
+use Rattle.logic.proofs.Coherence.{Opposed}
 use Rattle.logic.proofs.Candidates.{member-withTags, member-withTags-intro, candidates-below}
 use Rattle.logic.proofs.Literals.{complement-half, complement-bit, join-div, join-mod, join-split, join-below, split-below, literal-half, tag-half}
 

@@ -7,6 +7,7 @@ pub mod Reading
 pub mod Plain
 pub mod Pairs
 pub mod Demands
+pub mod Standing
 pub mod Verdict
 pub mod Cycle
 pub mod Cases

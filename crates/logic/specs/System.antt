@@ -5,6 +5,7 @@ use mathlib.Core.Bool.{Bool, true}
 use mathlib.Core.List.{List, [], _∷_, _++_}
 use lib.Dec.{T, ltb}
 use Rattle.logic.specs.Tests.{_and_, member}
+use Rattle.logic.specs.Theory.{complement}
 
 pub record System : Type 0 where
   -- the conclusions are the numbers below this
@@ -21,6 +22,10 @@ pub record System : Type 0 where
 -- the conclusions of a list, as a test
 abbrev pub held : List ℕ → ℕ → Bool
 held l x = member x l
+
+-- no conclusion is held beside its opposite, the number with the lowest bit flipped
+unfoldable pub Coherent : (ℕ → Bool) → Type 0
+Coherent h = (x : ℕ) → T (h x) → T (h (complement x)) → ⊥
 
 module _ (s : System) where
   -- "A derivation is a list of lines each following from earlier ones."

@@ -6,7 +6,7 @@ use mathlib.Core.List.{List}
 use lib.Dec.{eqb}
 use lib.ListN.{length, drop}
 use Rattle.logic.specs.Tests.{_or_, total}
-use Rattle.logic.specs.Theory.{Theory}
+use Rattle.logic.specs.Theory.{Theory, complement}
 use Rattle.memory.specs.Layout.{tagCount, memorySize}
 use Rattle.memory.specs.Fields.{mark, has, sizeF}
 use Rattle.memory.specs.Memory.{view, heldOf, writtenOf, users, Invariant, Ready}
@@ -24,6 +24,10 @@ pub record UsesAt (d : Theory) (p first end : ℕ) : Type 0 where
 pub record Kept (m n : List ℕ) : Type 0 where
   pub size : length n ≡ length m
   pub rest : drop memorySize n ≡ drop memorySize m
+
+-- an antecedent of rule r has neither tag t nor its opposite
+abbrev pub Lacks : (ℕ → ℕ → ℕ) → ℕ → ℕ → Type 0
+Lacks w t r = w (has t) r + w (has (complement t)) r < w sizeF r
 
 -- one antecedent more of rule r has tag t
 pub record Visited (d : Theory) (t r : ℕ) (m n : List ℕ) : Type 0 where

@@ -4,6 +4,7 @@ use mathlib.Core.Bool.{Bool, cond}
 use lib.Dec.{ltb, eqb}
 use Rattle.logic.specs.Tests.{_and_, _or_, isnt, weigh}
 use Rattle.logic.specs.Theory.{complement}
+use Rattle.logic.specs.Standing.{Standing, firing, out, waiting, firstFit}
 use Rattle.memory.specs.Fields.{mark, has, sizeF, kindF, namingF, strictF, supportF, headedF, factF, provedF, refutedF, firingF, outF, counteredF, unopposedF}
 
 module _ (w : ℕ → ℕ → ℕ) where
@@ -29,9 +30,17 @@ module _ (w : ℕ → ℕ → ℕ) where
   notDefeasiblyBy q =
       processed q 1 and (eqb (w outF q) (w supportF q) or processed (complement q) 0 or ltb 0 (w unopposedF (complement q)))
 
+  -- how rule r stands by ∂, where so many antecedents more have +∂, and −∂
+  abbrev pub standingWith : ℕ → ℕ → ℕ → Standing
+  standingWith plus minus r = firstFit (eqb (w (has 2) r + plus) (w sizeF r)) (ltb 0 (w (has 3) r + minus))
+
   -- Document 01, its price: one antecedent more of rule r gets tag t, 2 or 3, and the rule was open and is decided by it
   abbrev pub decidedBy : ℕ → ℕ → Bool
   decidedBy t r = isnt (eqb (w (has 2) r) (w sizeF r)) and eqb (w (has 3) r) 0 and (eqb t 3 or eqb (w (has 2) r + 1) (w sizeF r))
+
+  -- what that antecedent makes of a rule that waits
+  abbrev pub decidedTo : ℕ → ℕ → Standing
+  decidedTo t r = cond (decidedBy t r) (cond (eqb t 2) firing out) waiting
 
   -- what a use of a literal adds to the cost of its tag t: a definite tag visits strict rules alone
   unfoldable pub chargeBy : ℕ → ℕ → ℕ

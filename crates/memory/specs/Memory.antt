@@ -69,6 +69,10 @@ fires w t r = eqb (w (has t) r) (w sizeF r)
 abbrev pub isOut : (ℕ → ℕ → ℕ) → ℕ → ℕ → Bool
 isOut w t r = ltb 0 (w (has t) r)
 
+-- no more antecedents of a rule have +∂ or −∂ than it has: so it does not fire and is out as well
+abbrev pub NeverBothAt : (ℕ → ℕ → ℕ) → ℕ → Type 0
+NeverBothAt w r = w (has 2) r + w (has 3) r ≤ w sizeF r
+
 -- The counts of rules and rivals, by the words of the rules; `beats` and `loses` are tests of pairs: the stronger rule fires, is out.
 pub record Counted (d : Theory) (w : ℕ → ℕ → ℕ) (beats loses : ℕ → Bool) : Type 0 where
   pub beaten : (r : ℕ) → r < d .rules → w beatenF r ≡ rivalsOf d beats r
@@ -92,11 +96,12 @@ virtual zero = 1
 virtual (suc zero) = 0
 virtual (suc (suc t)) = virtual t
 
--- The invariant of the memory of a theory: it is indexed, and counted by the words of its rules.
+-- The invariant of the memory of a theory: it is indexed, and counted by the words of its rules, none of which fires and is out.
 pub record Invariant (d : Theory) (m : List ℕ) : Type 0 where
   pub room : memorySize ≤ length m
   pub index : Indexed d (view m) (useAt m)
   pub counts : Counted d (view m) (λ i. fires (view m) 2 (d .pair i .stronger)) (λ i. isOut (view m) 3 (d .pair i .stronger))
+  pub never : (r : ℕ) → r < d .rules → NeverBothAt (view m) r
 
 -- It is ready if besides the rules' words agree with what is processed.
 pub record Ready (d : Theory) (m : List ℕ) : Type 0 where

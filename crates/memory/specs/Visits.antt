@@ -11,8 +11,8 @@ use Rattle.logic.specs.Theory.{Theory, Kind, isStrict, canSupport, kindOf, head
 use Rattle.table.specs.Pairs.{PairsInOrder}
 use Rattle.memory.specs.Layout.{tagCount, memorySize}
 use Rattle.memory.specs.Fields.{mark, has, sizeF, headF, rivalsF, beatenF, lostF, provedF, firingF, counteredF, rivalsEnd, countsEnd, rivalsBase, rivalsBy, byRival}
-use Rattle.memory.specs.Memory.{view, useAt, rivalsOf, Indexed, fires, isOut, Invariant}
-use Rattle.memory.specs.Api.{Kept}
+use Rattle.memory.specs.Memory.{view, useAt, rivalsOf, Indexed, fires, isOut, NeverBothAt, Invariant}
+use Rattle.memory.specs.Api.{Kept, Lacks}
 
 -- what is needed of a theory: few atoms and rules, heads that are literals, and pairs in the order of the stronger rules
 pub record WellFormed (d : Theory) : Type 0 where
@@ -78,6 +78,7 @@ pub record Open (d : Theory) (m : List ℕ) (p b : ℕ → ℕ → Bool) : Type 
   pub room : memorySize ≤ length m
   pub index : Indexed d (view m) (useAt m)
   pub counts : CountedBy d (view m) p b
+  pub never : (r : ℕ) → r < d .rules → NeverBothAt (view m) r
 
 -- the fields below the counts of rivals stay
 pub record Unchanged (m n : List ℕ) : Type 0 where
@@ -88,7 +89,7 @@ pub record Unchanged (m n : List ℕ) : Type 0 where
 pub record Decided (d : Theory) (t r : ℕ) (m : List ℕ) : Type 0 where
   pub before : List ℕ
   pub invariant : Invariant d before
-  pub short : view before (has t) r < view before sizeF r
+  pub lacks : Lacks (view before) t r
   pub raised : Raised (has t) r 1 before m
   pub just : T (justReached (view m) t r)
 

@@ -12,19 +12,17 @@ ghost use Rattle.table.specs.Refusals.{judgementOf};
 ghost use Rattle.memory.specs.Layout.{tagCount, fieldSize, memorySize};
 ghost use Rattle.memory.specs.Memory.{view, heldOf, Ready};
 ghost use Rattle.memory.specs.Api.{adds, UsesAt};
-ghost use Rattle.memory.specs.Deciding.{processed, definitelyBy, notDefinitelyBy, defeasiblyBy, notDefeasiblyBy, decidedBy, chargeBy};
+ghost use Rattle.memory.specs.Deciding.{processed, definitelyBy, notDefinitelyBy, defeasiblyBy, notDefeasiblyBy, chargeBy};
+use crate::deciding::decides;
 use crate::fields::COUNTERED;
 use crate::fields::FACT;
 use crate::fields::FIRING;
-use crate::fields::HAS_PROVED;
-use crate::fields::HAS_REFUTED;
 use crate::fields::HEADED;
 use crate::fields::KIND;
 use crate::fields::NAMING;
 use crate::fields::OUT;
 use crate::fields::PROVED;
 use crate::fields::REFUTED;
-use crate::fields::SIZE;
 use crate::fields::STRICT;
 use crate::fields::SUPPORT;
 use crate::fields::UNOPPOSED;
@@ -32,6 +30,7 @@ use crate::layout::TAGS;
 use crate::uses::Uses;
 use crate::words::load;
 use crate::words::load_use;
+use standing::answer::Standing;
 use table::format::Literal;
 use table::format::Sizes;
 use values::both;
@@ -123,22 +122,6 @@ pub fn follows(table: &[u8], s: Sizes, mem: &[u16], x: u16) -> bool
     }
 }
 
-// Whether one antecedent more of rule r with tag t, 2 or 3, decides the rule.
-fn decides(mem: &[u16], r: usize, t: u16) -> bool
-    requires { ⌜ (r < fieldSize) × (memorySize ≤ length (now mem)) ⌝ }
-    ensures { λ x. ⌜ x ≡ decidedBy (view (now (mem .entry))) t r ⌝ }
-{
-    if load(mem, HAS_REFUTED, r) != 0 {
-        return false;
-    }
-    let proved = load(mem, HAS_PROVED, r) as u32;
-    let size = load(mem, SIZE, r) as u32;
-    if t == 3 {
-        return proved != size;
-    }
-    proved + 1 == size
-}
-
 fn weigh(test: bool, n: u16) -> u32
     ensures { λ r. ⌜ (r ≡ weigh test n) × (r ≤ 65535) ⌝ }
 {
@@ -146,14 +129,17 @@ fn weigh(test: bool, n: u16) -> u32
 }
 
 // What rule r, which uses a literal, adds to the cost of its tag t.
-fn charge(mem: &[u16], r: usize, t: u16) -> u32
-    requires { ⌜ (r < fieldSize) × (memorySize ≤ length (now mem)) ⌝ }
+fn charge(mem: &[u16], r: usize, t: usize) -> u32
+    requires { ⌜ (r < fieldSize) × (memorySize ≤ length (now mem)) × (t < tagCount) ⌝ }
     ensures { λ x. ⌜ (x ≡ chargeBy (view (now (mem .entry))) t r) × (x ≤ 65536) ⌝ }
 {
     if t < 2 {
-        weigh(load(mem, KIND, r) == 0, 1)
-    } else {
-        1 + weigh(decides(mem, r, t), load(mem, NAMING, r))
+        return weigh(load(mem, KIND, r) == 0, 1);
+    }
+    match decides(mem, r, t) {
+        Standing::Firing => 1 + load(mem, NAMING, r) as u32,
+        Standing::Out => 1 + load(mem, NAMING, r) as u32,
+        Standing::Waiting => 1,
     }
 }
 
@@ -162,7 +148,7 @@ pub fn cost(table: &[u8], s: Sizes, mem: &[u16], x: u16, uses: Uses) -> u32
     requires { ⌜ (judgementOf (now table) ≡ Accepted s) × Ready (theoryIn (now table) s) (now mem) × (x < tagCount * (2 * s .atoms)) × (heldOf (now mem) x ≡ false) × UsesAt (theoryIn (now table) s) (x / tagCount) (uses .first) (uses .end) ⌝ }
     ensures { λ r. ⌜ r ≡ plainSystem (theoryIn (now (table .entry)) s) .cost (heldOf (now (mem .entry))) (adds (heldOf (now (mem .entry))) x) x ⌝ }
 {
-    let t = x % TAGS;
+    let t = (x % TAGS) as usize;
     let mut sum: u32 = 1;
     let end = uses.end;
     let mut k = uses.first;

@@ -14,12 +14,15 @@ use crate::counting::add_pairs;
 use crate::counting::add_rules;
 use crate::counting::mark_facts;
 use crate::counting::mark_firsts;
+use crate::deciding::standing;
+use crate::fields::HAS_PROVED;
 use crate::layout::MEMORY_SIZE;
 use crate::sorting::begin_uses;
 use crate::sorting::place_uses;
 use crate::visit::decide;
-use crate::visit::reaches;
 use crate::visit::visit_definite;
+use crate::words::bump;
+use standing::answer::Standing;
 use table::format::Sizes;
 
 // The words of the memory set to 0.
@@ -48,17 +51,19 @@ fn fill(table: &[u8], s: Sizes, mem: &mut [u16])
     place_uses(table, s, mem);
 }
 
-// Rule r is visited for its virtual antecedent, with +Δ and +∂. The second visit stands here in its two parts, and in `visit` too: where one
-// function makes both visits, the compiler no longer keeps `walk` apart.
+// Rule r is visited for its virtual antecedent, with +Δ and +∂. The second visit stands here in its parts, and in `visit` too: where one
+// function makes both visits, the compiler no longer keeps `walk` apart. And the rule waits before it: how it stands after it is enough.
 fn start_rule(table: &[u8], s: Sizes, mem: &mut [u16], r: usize)
     requires { ⌜ (judgementOf (now table) ≡ Accepted s) × Started (theoryIn (now table) s) r (now mem) (now mem) × (r < s .rules) ⌝ }
     ensures { λ _. ⌜ Started (theoryIn (now (table .entry)) s) (r + 1) (now (mem .entry)) (now (mem .exit)) ⌝ }
 {
     visit_definite(table, s, mem, r, 0);
-    if !reaches(mem, r, 2) {
-        return;
+    bump(mem, HAS_PROVED, r);
+    match standing(mem, r, 0, 0) {
+        Standing::Firing => decide(table, s, mem, r, 2),
+        Standing::Out => {}
+        Standing::Waiting => {}
     }
-    decide(table, s, mem, r, 2);
 }
 
 // Every rule is visited for its virtual antecedent.

@@ -6,21 +6,22 @@ ghost use lib.Dec.{T};
 ghost use lib.ListN.{length};
 ghost use Rattle.logic.specs.Tests.{_and_, weigh};
 ghost use Rattle.logic.specs.Theory.{canSupport, kindOf};
+ghost use Rattle.logic.specs.System.{Coherent};
 ghost use Rattle.table.specs.declared.judge.Judgement.the-variants.{Accepted};
 ghost use Rattle.table.specs.Format.{theoryIn};
 ghost use Rattle.table.specs.Refusals.{judgementOf};
 ghost use Rattle.memory.specs.Layout.{tagCount, fieldCount, fieldSize, memorySize};
 ghost use Rattle.memory.specs.Fields.{has, sizeF, headF, rivalsBy, byRival};
-ghost use Rattle.memory.specs.Memory.{view, heldOf, writtenOf, Invariant, Ready};
-ghost use Rattle.memory.specs.Api.{UsesAt, Visited, Added};
+ghost use Rattle.memory.specs.Memory.{view, heldOf, writtenOf, NeverBothAt, Invariant, Ready};
+ghost use Rattle.memory.specs.Api.{adds, UsesAt, Lacks, Visited, Added};
 ghost use Rattle.memory.specs.Visits.{WellFormed, Raised, threshold, justReached, reached, decidedFor, notifies, notifiedBelow, isFree, justReachedByRival, Open, Unchanged, Decided, Notified, Spread};
+use crate::deciding::decides;
+use crate::deciding::standing;
 use crate::fields::BEATEN;
 use crate::fields::BY_ITSELF;
 use crate::fields::BY_RIVAL;
 use crate::fields::FIRST;
 use crate::fields::HAS;
-use crate::fields::HAS_PROVED;
-use crate::fields::HAS_REFUTED;
 use crate::fields::HEAD;
 use crate::fields::KIND;
 use crate::fields::LOST;
@@ -34,10 +35,10 @@ use crate::words::bump;
 use crate::words::load;
 use crate::words::load_use;
 use crate::words::store;
+use standing::answer::Standing;
 use table::format::Literal;
 use table::format::Sizes;
 use table::format::read_pair;
-use values::both;
 use values::wide;
 
 // One more, if the test says so.
@@ -48,13 +49,6 @@ fn bump_if(mem: &mut [u16], field: usize, i: usize, test: bool)
     if test {
         bump(mem, field, i);
     }
-}
-
-// The number of antecedents with tag t at which a rule is decided.
-fn threshold(t: usize, size: u16) -> u16
-    ensures { λ r. ⌜ r ≡ threshold t size ⌝ }
-{
-    if t % 2 == 0 { size } else { 1 }
 }
 
 // Whether every rival of rule r is out (t = 2), or none fires (t = 3).
@@ -69,33 +63,61 @@ fn is_free(mem: &[u16], r: usize, t: usize) -> bool
     }
 }
 
-// Whether the rival that rule r was just notified of has made it countered (t = 2), or unopposed (t = 3).
-fn reached_by_rival(mem: &[u16], r: usize, t: usize) -> bool
+// Whether rule r, of which one rival more fires, is countered by it: it is the first that does, and the rule is not out.
+fn newly_countered(mem: &[u16], r: usize) -> bool
+    requires { ⌜ (r < fieldSize) × (memorySize ≤ length (now mem)) × NeverBothAt (view (now mem)) r ⌝ }
+    ensures { λ x. ⌜ x ≡ justReachedByRival (view (now (mem .entry))) 2 r ⌝ }
+{
+    if load(mem, BEATEN, r) != 1 {
+        return false;
+    }
+    match standing(mem, r, 0, 0) {
+        Standing::Firing => true,
+        Standing::Out => false,
+        Standing::Waiting => true,
+    }
+}
+
+// Whether rule r, of which one rival more is out, is unopposed by it: it is the last that was not, and the rule fires.
+fn newly_unopposed(mem: &[u16], r: usize) -> bool
     requires { ⌜ (r < fieldSize) × (memorySize ≤ length (now mem)) ⌝ }
+    ensures { λ x. ⌜ x ≡ justReachedByRival (view (now (mem .entry))) 3 r ⌝ }
+{
+    if load(mem, LOST, r) != load(mem, RIVALS, r) {
+        return false;
+    }
+    match standing(mem, r, 0, 0) {
+        Standing::Firing => true,
+        Standing::Out => false,
+        Standing::Waiting => false,
+    }
+}
+
+fn reached_by_rival(mem: &[u16], r: usize, t: usize) -> bool
+    requires { ⌜ (r < fieldSize) × (2 ≤ t) × (t < tagCount) × (memorySize ≤ length (now mem)) × NeverBothAt (view (now mem)) r ⌝ }
     ensures { λ x. ⌜ x ≡ justReachedByRival (view (now (mem .entry))) t r ⌝ }
 {
     if t == 2 {
-        both(load(mem, BEATEN, r) == 1, load(mem, HAS_REFUTED, r) == 0)
+        newly_countered(mem, r)
     } else {
-        both(
-            load(mem, LOST, r) == load(mem, RIVALS, r),
-            load(mem, HAS_PROVED, r) == load(mem, SIZE, r),
-        )
+        newly_unopposed(mem, r)
     }
 }
 
 // Rule x is notified that a rule over it fires (t = 2), or is out (t = 3). That rule is a rival if q, the complement of its head, is
 // the head of x.
 fn notify(mem: &mut [u16], q: usize, x: usize, t: usize)
-    requires { ⌜ (x < fieldSize) × (2 ≤ t) × (t < tagCount) × (memorySize ≤ length (now mem)) ⌝ }
+    requires { ⌜ (x < fieldSize) × (2 ≤ t) × (t < tagCount) × (memorySize ≤ length (now mem)) × NeverBothAt (view (now mem)) x ⌝ }
     requires { ⌜ (view (now mem) (rivalsBy t) x < 65535) × (view (now mem) headF x < fieldSize) × (view (now mem) (byRival t) (view (now mem) headF x) < 65535) ⌝ }
     ensures { λ _. ⌜ Notified q x t (now (mem .entry)) (now (mem .exit)) ⌝ }
 {
     let head = wide(load(mem, HEAD, x));
-    let rival = head == q;
-    bump_if(mem, RIVALS_BY + t, x, rival);
+    if head != q {
+        return;
+    }
+    bump(mem, RIVALS_BY + t, x);
     let turns = reached_by_rival(mem, x, t);
-    bump_if(mem, BY_RIVAL + t, head, both(rival, turns));
+    bump_if(mem, BY_RIVAL + t, head, turns);
 }
 
 // Every rule that rule r is over is notified.
@@ -120,9 +142,16 @@ fn walk(table: &[u8], s: Sizes, mem: &mut [u16], r: usize, t: usize)
     }
 }
 
-// One antecedent more of rule r has tag t. Whether it decides the rule: all antecedents have an even tag now, or one has an odd tag.
-pub fn reaches(mem: &mut [u16], r: usize, t: usize) -> bool
-    requires { ⌜ (r < fieldSize) × (t < tagCount) × (memorySize ≤ length (now mem)) × (view (now mem) (has t) r < view (now mem) sizeF r) ⌝ }
+// The number of antecedents with tag t, +Δ or −Δ, at which a rule is decided.
+fn threshold(t: usize, size: u16) -> u16
+    ensures { λ r. ⌜ r ≡ threshold t size ⌝ }
+{
+    if t % 2 == 0 { size } else { 1 }
+}
+
+// One antecedent more of rule r has tag t, +Δ or −Δ. Whether it decides the rule: all antecedents have +Δ now, or one has −Δ.
+fn reaches(mem: &mut [u16], r: usize, t: usize) -> bool
+    requires { ⌜ (r < fieldSize) × (t < 2) × (memorySize ≤ length (now mem)) × (view (now mem) (has t) r < view (now mem) sizeF r) ⌝ }
     ensures { λ x. ⌜ Raised (has t) r 1 (now (mem .entry)) (now (mem .exit)) × (x ≡ justReached (view (now (mem .exit))) t r) ⌝ }
 {
     let size = load(mem, SIZE, r);
@@ -132,7 +161,7 @@ pub fn reaches(mem: &mut [u16], r: usize, t: usize) -> bool
 
 // A visit with tag +Δ or −Δ.
 pub fn visit_definite(table: &[u8], s: Sizes, mem: &mut [u16], r: usize, t: usize)
-    requires { ⌜ WellFormed (theoryIn (now table) s) × Invariant (theoryIn (now table) s) (now mem) × (r < s .rules) × (t < 2) × (view (now mem) (has t) r < view (now mem) sizeF r) ⌝ }
+    requires { ⌜ WellFormed (theoryIn (now table) s) × Invariant (theoryIn (now table) s) (now mem) × (r < s .rules) × (t < 2) × Lacks (view (now mem)) t r ⌝ }
     requires { ⌜ (r < fieldSize) × (memorySize ≤ length (now mem)) ⌝ }
     ensures { λ _. ⌜ Visited (theoryIn (now (table .entry)) s) t r (now (mem .entry)) (now (mem .exit)) ⌝ }
 {
@@ -168,22 +197,25 @@ pub fn decide(table: &[u8], s: Sizes, mem: &mut [u16], r: usize, t: usize)
 
 // One antecedent more of rule r has tag t.
 fn visit(table: &[u8], s: Sizes, mem: &mut [u16], r: usize, t: usize)
-    requires { ⌜ (judgementOf (now table) ≡ Accepted s) × Invariant (theoryIn (now table) s) (now mem) × (r < s .rules) × (t < tagCount) × (view (now mem) (has t) r < view (now mem) sizeF r) ⌝ }
+    requires { ⌜ (judgementOf (now table) ≡ Accepted s) × Invariant (theoryIn (now table) s) (now mem) × (r < s .rules) × (t < tagCount) × Lacks (view (now mem)) t r ⌝ }
     ensures { λ _. ⌜ Visited (theoryIn (now (table .entry)) s) t r (now (mem .entry)) (now (mem .exit)) ⌝ }
 {
     if t < 2 {
         visit_definite(table, s, mem, r, t);
         return;
     }
-    if !reaches(mem, r, t) {
-        return;
+    let next = decides(mem, r, t);
+    bump(mem, HAS + t, r);
+    match next {
+        Standing::Firing => decide(table, s, mem, r, 2),
+        Standing::Out => decide(table, s, mem, r, 3),
+        Standing::Waiting => {}
     }
-    decide(table, s, mem, r, t);
 }
 
 // Every rule with literal p in its body is visited with tag t.
 fn visit_uses(table: &[u8], s: Sizes, mem: &mut [u16], p: u16, t: u16, uses: Uses)
-    requires { ⌜ (judgementOf (now table) ≡ Accepted s) × Ready (theoryIn (now table) s) (now mem) × (p < 2 * s .atoms) × (t < tagCount) × (heldOf (now mem) (tagCount * p + t) ≡ false) ⌝ }
+    requires { ⌜ (judgementOf (now table) ≡ Accepted s) × Ready (theoryIn (now table) s) (now mem) × (p < 2 * s .atoms) × (t < tagCount) × (heldOf (now mem) (tagCount * p + t) ≡ false) × Coherent (adds (heldOf (now mem)) (tagCount * p + t)) ⌝ }
     requires { ⌜ (p < fieldSize) × (memorySize ≤ length (now mem)) × UsesAt (theoryIn (now table) s) p (uses .first) (uses .end) ⌝ }
     ensures { λ _. ⌜ Spread (theoryIn (now (table .entry)) s) p t (now (mem .entry)) (now (mem .exit)) ⌝ }
 {
@@ -198,7 +230,7 @@ fn visit_uses(table: &[u8], s: Sizes, mem: &mut [u16], p: u16, t: u16, uses: Use
 
 // Conclusion x is processed.
 pub fn add(table: &[u8], s: Sizes, mem: &mut [u16], x: u16, uses: Uses)
-    requires { ⌜ (judgementOf (now table) ≡ Accepted s) × Ready (theoryIn (now table) s) (now mem) × (x < tagCount * (2 * s .atoms)) × (writtenOf (now mem) x ≡ true) × (heldOf (now mem) x ≡ false) ⌝ }
+    requires { ⌜ (judgementOf (now table) ≡ Accepted s) × Ready (theoryIn (now table) s) (now mem) × (x < tagCount * (2 * s .atoms)) × (writtenOf (now mem) x ≡ true) × (heldOf (now mem) x ≡ false) × Coherent (adds (heldOf (now mem)) x) ⌝ }
     requires { ⌜ UsesAt (theoryIn (now table) s) (x / tagCount) (uses .first) (uses .end) ⌝ }
     ensures { λ _. ⌜ Added (theoryIn (now (table .entry)) s) x (now (mem .entry)) (now (mem .exit)) ⌝ }
 {

@@ -13,10 +13,11 @@ use Rattle.logic.specs.Verdict.{Verdict, clash, go, hold, split, «open», verd
 use Rattle.logic.proofs.Tests.{at-most}
 use Rattle.report.specs.Text.{decimal, wordOf, atomsWord, spentWord, ofWord, refusedWord, space, newline}
 use Rattle.report.specs.Sheet.{atomLine, atomLines, countLine, spentLine, runSheet, refusedSheet, verdictIn}
-use Rattle.report.specs.Printing.{Put, Marked, marked}
+use Rattle.standing.specs.Marks.{marked, Marked}
+use Rattle.report.specs.Printing.{Put}
 use Rattle.report.proofs.Decimal.{length-1, length-2, length-3, length-5}
 use Rattle.report.proofs.Puts.{room-left, put-nothing, put-put}
-use Rattle.report.proofs.Marking.{verdict-same}
+use Rattle.report.proofs.Verdicts.{verdict-same}
 
 word-length : (v : Verdict) → length (wordOf v) ≤ 5
 unfolding wordOf

@@ -1,6 +1,6 @@
 pub mod Decimal
 pub mod Puts
-pub mod Marking
+pub mod Verdicts
 pub mod Lengths
 pub mod Running
 pub mod Words

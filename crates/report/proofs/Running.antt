@@ -69,25 +69,11 @@ module _ (b : List ℕ) (s : Sizes) (e : judgementOf b ≡ judgement.Accepted s)
     whole : take (lines (runOf b most)) log′ ≡ logOf (runOf b most)
     whole = ap (take (lines (runOf b most))) w ∙ take-at (logOf (runOf b most)) (drop (lines (runOf b most)) log) (lines (runOf b most)) refl
 
-    in-log : (l : List ℕ) (i : ℕ) → i < length l → T (member (getD l i 0) l)
-    in-log l i h =
-        subst (λ z. T (member (getD l i 0) z)) (take-append-drop (suc i) l)
-        (member-left (getD l i 0) (take (suc i) l) (drop (suc i) l) (subst (λ z. T (member (getD l i 0) z)) (sym (take-suc l i 0 h)) (member-last (take i l) (getD l i 0))))
-
-    line-below : (i : ℕ) → i < lines (runOf b most) → getD log′ i 0 < 4096
-    line-below i h =
-        let x = getD (logOf (runOf b most)) i 0 in
-        let k : x < 2 * (4 * theoryOf b .atoms) =
-        conclusions-below (theoryOf b) (proper-read b s e) (logOf (runOf b most)) (plain-demands (theoryOf b) (proper-read b s e) most .isDerivation) x (in-log (logOf (runOf b most)) i h) in
-        subst (λ z. z < 4096) (sym (ap (λ z. getD z i 0) w ∙ List·getD-append (logOf (runOf b most)) (drop (lines (runOf b most)) log) 0 i h))
-        (omega (arith, k, atoms-read b s e, few .atoms))
-
     run-fits : FitsRun (s .atoms) most log′ (countsIn (runOf b most))
     run-fits =
         record {
           atoms = few .atoms;
           lines = omega (arith, ap length w, length-append (logOf (runOf b most)) (drop (lines (runOf b most)) log));
-          below = line-below;
           spent = omega (arith, plain-demands (theoryOf b) (proper-read b s e) most .within, m, bound-of, bound-small);
           most = omega (arith, m, bound-of, bound-small);
         }

@@ -17,30 +17,16 @@ pub record Put (out : List ℕ) (at : ℕ) (text out′ : List ℕ) (r : ℕ) : 
   pub bytes : out′ ≡ take at out ++ text ++ drop (at + length text) out
   pub end : r ≡ at + length text
 
--- the lines that an array of marks has
-unfoldable pub marked : List ℕ → ℕ → Bool
-marked marks x = eqb (getD marks x 0) 1
-
--- Marks that are to be made: none stands yet, and each of the first n lines has a place. The marks of a list of lines.
-pub record Markable (log : List ℕ) (n : ℕ) (marks : List ℕ) : Type 0 where
-  pub lines : n ≤ length log
-  pub below : (i : ℕ) → i < n → getD log i 0 < 4096
-  pub clear : marks ≡ replicate 4096 0
-
-abbrev pub Marked : List ℕ → List ℕ → Type 0
-Marked lines marks = (x : ℕ) → x < 4096 → marked marks x ≡ member x lines
-
 -- The sheet by the engine's answer and the log that it left.
 unfoldable pub sheetTo : ℕ → ℕ → List ℕ → Answer → List ℕ
 sheetTo atoms most log (Refused n) = refusedSheet (numberOf n)
 sheetTo atoms most log (Stopped c) = runSheet atoms (take (c .lines) log) (c .spent) most
 sheetTo atoms most log (Finished c) = runSheet atoms (take (c .lines) log) (c .spent) most
 
--- What a run of an accepted table keeps to, so that its sheet has room: lines below 4,096, numbers of at most five digits.
+-- What a run of an accepted table keeps to, so that its sheet has room: numbers of at most five digits.
 pub record FitsRun (n m : ℕ) (log : List ℕ) (c : Counts) : Type 0 where
   pub atoms : n ≤ 512
   pub lines : c .lines ≤ length log
-  pub below : (i : ℕ) → i < c .lines → getD log i 0 < 4096
   pub spent : c .spent < 100000
   pub most : m < 100000
 

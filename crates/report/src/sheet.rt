@@ -5,19 +5,20 @@ ghost use lib.ListN.{length, take};
 ghost use Rattle.logic.specs.Reading.{taggedBy};
 ghost use Rattle.logic.specs.Verdict.{verdict};
 ghost use Rattle.table.specs.Refusals.{numberOf};
+ghost use Rattle.standing.specs.Marks.{marked};
 ghost use Rattle.report.specs.Sheet.{atomLine, atomLines, countLine, spentLine, runSheet, refusedSheet, sheetOf, Printed};
-ghost use Rattle.report.specs.Printing.{Put, FitsRun, marked};
+ghost use Rattle.report.specs.Printing.{Put, FitsRun};
 ghost use Rattle.report.specs.Text.{meant};
 use crate::text::put;
 use crate::text::put_number;
 use crate::verdict::Verdict;
-use crate::verdict::mark_lines;
 use crate::verdict::put_verdict;
 use crate::verdict::verdict_of;
 use engine::answer::Answer;
 use engine::answer::Counts;
 use engine::run::SCRATCH;
 use engine::run::run;
+use standing::marks::marks_of;
 use table::format::Literal;
 use table::format::Sizes;
 use table::format::read_sizes;
@@ -52,7 +53,7 @@ fn put_atom(out: &mut [u8], at: usize, a: u16, v: Verdict) -> usize
 
 // By the literals that say that an atom holds.
 fn put_atoms(out: &mut [u8], from: usize, marks: &[u8], atoms: u16) -> usize
-    requires { ⌜ (from ≤ 10) × (atoms ≤ 512) × (length (now out) ≡ 5041) × (length (now marks) ≡ 4096) ⌝ }
+    requires { ⌜ (from ≤ 10) × (atoms ≤ 512) × (length (now out) ≡ 5041) ⌝ }
     ensures { λ r. ⌜ Put (now (out .entry)) from (atomLines (verdict (taggedBy 4 (marked (now (marks .entry))))) atoms) (now (out .exit)) r ⌝ }
 {
     let mut at = from;
@@ -82,8 +83,8 @@ fn put_run(out: &mut [u8], atoms: u16, log: &[u16], c: Counts, most: u32) -> usi
     requires { ⌜ FitsRun atoms most (now log) c × (length (now out) ≡ 5041) ⌝ }
     ensures { λ r. ⌜ Put (now (out .entry)) 0 (runSheet atoms (take (c .lines) (now (log .entry))) (c .spent) most) (now (out .exit)) r ⌝ }
 {
-    let mut marks = [0u8; 8 * Sizes::MAX_ATOMS as usize];
-    mark_lines(log, c.lines as usize, &mut marks);
+    let n = c.lines as usize;
+    let marks = marks_of(&log[..n]);
     let count = put_count(out, 0, atoms);
     let last = put_atoms(out, count, &marks, atoms);
     put_spent(out, last, c.spent, most)

@@ -7,21 +7,21 @@ use mathlib.Core.Path.{_≡_, refl, sym, _∙_, ap, ap₂, subst, fun-ext}
 use mathlib.Core.Logic.{_⊎_, inl, inr, ⊎-elim}
 use mathlib.Core.Bool.{Bool, true, false}
 use mathlib.Core.List.{List, [], _∷_, _++_, append-assoc, map}
-use lib.Dec.{T, eqb, eqb→eq, eqb-refl}
+use lib.Dec.{T, eqb, eqb→eq}
 use lib.ListN.{length, set, take, drop, length-append, length-set}
 use lib.Seq.{length-take-le, take-suc-set, drop-set-lt, drop-drop}
 use Rattle.logic.specs.Tests.{_and_, _or_, isnt, member, distinct, upto}
 use Rattle.logic.specs.Theory.{Theory, proper, complement}
 use Rattle.logic.specs.Inference.{follows}
-use Rattle.logic.specs.System.{System, held, derivation}
+use Rattle.logic.specs.System.{System, held, Coherent, derivation}
 use Rattle.logic.specs.Worklist.{put, grow}
 use Rattle.logic.specs.Reading.{taggedBy, systemOf, withTags, conclusion}
 use Rattle.logic.specs.Plain.{plainSystem}
 use Rattle.logic.proofs.Tests.{and-intro, and-left, and-right, false-of, isnt-elim, isnt-intro, of-false, of-true, or-elim, or-left, or-right, test-cases, test-eq}
-use Rattle.logic.proofs.Lists.{distinct-snoc, member-last, member-left, member-snoc}
+use Rattle.logic.proofs.Lists.{distinct-snoc, member-last, member-left, member-more}
 use Rattle.logic.proofs.Literals.{join-div, join-mod}
 use Rattle.logic.proofs.Derivations.{derivation-snoc, derives-all-below, monotone}
-use Rattle.logic.proofs.Coherence.{Coherent, coherent-length}
+use Rattle.logic.proofs.Coherence.{coherent-length, part-coherent}
 use Rattle.logic.proofs.Runs.{grow-append}
 use Rattle.logic.proofs.Plain.{plain-coherent, plain-lawful}
 use Rattle.table.specs.declared.format.Sizes.{Sizes}
@@ -31,7 +31,7 @@ use Rattle.table.specs.Refusals.{judgementOf}
 use Rattle.table.proofs.Legal.{legal, Limited, limited, ranged, proper-theory}
 use Rattle.memory.specs.Layout.{tagCount}
 use Rattle.memory.specs.Memory.{heldOf, writtenOf}
-use Rattle.memory.specs.Api.{Wrote}
+use Rattle.memory.specs.Api.{adds, Wrote}
 use Rattle.engine.specs.Working.{Logged, Tried}
 use Rattle.memory.proofs.Views.{kept-none, kept-then}
 use Rattle.memory.proofs.visit.Marks.{held-written}
@@ -71,13 +71,6 @@ unfolding put
 put-adds true l x t = refl
 put-adds false l x t = absurd t
 
--- membership with one more at the end
-pub member-more : (l : List ℕ) (x y : ℕ) → member y l or eqb y x ≡ member y (l ++ (x ∷ []))
-member-more l x y =
-    test-eq _ _
-    (λ t. ⊎-elim (λ u. member-left y l (x ∷ []) u) (λ u. subst (λ z. T (member y (l ++ (z ∷ [])))) (eqb→eq y x u) (member-last l y)) (or-elim _ _ t))
-    (λ t. ⊎-elim (λ u. or-left _ _ u) (λ e. or-right _ _ (subst (λ z. T (eqb y z)) e (eqb-refl y))) (member-snoc l x y t))
-
 module _ (d : Theory) (p : T (proper d)) where
   -- a derivation without repeats has at most 4A lines
   pub good-length : (l : List ℕ) → T (derivation (plainSystem d) l) → T (distinct l) → length l ≤ tagCount * d .atoms
@@ -115,6 +108,13 @@ module _ (d : Theory) (p : T (proper d)) where
   opposite-never m l n x y g small e o t =
       plain-coherent d p (take n l ++ (x ∷ [])) (line-derives m l n x g small t) x (member-last (take n l) x)
       (subst (λ z. T (member z (take n l ++ (x ∷ [])))) e (member-left y (take n l) (x ∷ []) o))
+
+  -- so what is processed, with a line that is next, holds no conclusion beside its opposite
+  pub next-coherent : (m l : List ℕ) (n x : ℕ) → Logged d m l n → writtenOf m x ≡ true → Coherent (adds (heldOf m) x)
+  next-coherent m l n x g e =
+      part-coherent (adds (heldOf m) x) (held (take n l))
+      (λ y u. ⊎-elim (λ v. subst T (g .written y) (held-written m y v)) (λ v. subst (λ z. T (member z (take n l))) (sym (eqb→eq y x v)) (subst T (g .written x) (of-true _ e))) (or-elim _ _ u))
+      (plain-coherent d p (take n l) (g .derives))
 
   -- a conclusion is not tried if it or its opposite is written
   pub skips-opposed : (m l : List ℕ) (n x y : ℕ) → Logged d m l n → x < tagCount * (2 * d .atoms) → y ≡ complement x → T (writtenOf m x) ⊎ T (writtenOf m y) → Tried d (x ∷ []) m l n m l n

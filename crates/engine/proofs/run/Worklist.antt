@@ -15,7 +15,7 @@ use Rattle.logic.specs.Worklist.{outcome, put, grow, initial, process, costAfte
 use Rattle.logic.specs.Reading.{systemOf}
 use Rattle.logic.specs.Plain.{plainSystem}
 use Rattle.logic.proofs.Tests.{false-of, true-of}
-use Rattle.logic.proofs.Lists.{distinct-apart, member-here, member-right, snoc-append}
+use Rattle.logic.proofs.Lists.{distinct-apart, member-here, member-more, member-right, snoc-append}
 use Rattle.logic.proofs.Derivations.{derives-all-below}
 use Rattle.logic.proofs.Budgets.{rest-done, rest-steps, rest-stops, run-started}
 use Rattle.logic.proofs.Plain.{plain-lawful}
@@ -27,7 +27,7 @@ use Rattle.memory.specs.Memory.{heldOf}
 use Rattle.memory.specs.Api.{adds, Kept}
 use Rattle.engine.specs.Tallies.{next, due, Next, Stepped}
 use Rattle.engine.specs.Working.{Logged, Worked}
-use Rattle.engine.proofs.run.Trying.{drop-further, member-more}
+use Rattle.engine.proofs.run.Trying.{drop-further}
 use Rattle.engine.proofs.run.Tallies.{step-stopped, step-worked}
 use Rattle.memory.proofs.Views.{kept-none, kept-then}
 

@@ -222,7 +222,7 @@ module _ (b : List ℕ) (s : Sizes) (a : judgementOf b ≡ Accepted s) {m0 m1 : 
               pub started-none : Started (theoryIn b s) 0 m0 m7
               started-none =
                   record {
-                    invariant = record { room = room-7; index = indexed; counts = counted };
+                    invariant = record { room = room-7; index = indexed; counts = counted; never = λ r h. omega (arith, has-none 2 r (omega arith), has-none 3 r (omega arith)) };
                     done = λ t r h l. absurd (omega arith);
                     left = λ t r h l. has-none t r h;
                     marks = λ t i h. moving-7 t i (below-index t (omega arith));

@@ -10,16 +10,16 @@ use lib.Dec.{eqb, ltb, ltb→lt}
 use lib.ListN.{length, getD, drop, replicate, length-append, length-drop, length-replicate}
 use lib.Seq.{drop-at}
 use Rattle.logic.specs.Tests.{_and_, isnt, pick}
-use Rattle.logic.specs.Theory.{bodyOf}
+use Rattle.logic.specs.Theory.{complement, bodyOf}
 use Rattle.logic.proofs.Tests.{and-left, and-right, cond-false, lt-suc-cases, of-false, test-cases}
 use Rattle.table.specs.declared.format.Sizes.{Sizes}
 use Rattle.table.specs.declared.judge.Judgement.the-variants.{Accepted}
 use Rattle.table.specs.Format.{theoryIn}
 use Rattle.table.specs.Refusals.{judgementOf}
 use Rattle.memory.specs.Layout.{tagCount, fieldCount, fieldSize, memorySize}
-use Rattle.memory.specs.Fields.{has, sizeF}
+use Rattle.memory.specs.Fields.{has}
 use Rattle.memory.specs.Memory.{view, heldOf, writtenOf, virtual}
-use Rattle.memory.specs.Api.{Kept, Visited, Prepared}
+use Rattle.memory.specs.Api.{Kept, Lacks, Visited, Prepared}
 use Rattle.memory.specs.Indexing.{Low, Started}
 use Rattle.memory.proofs.visit.Accepted.{Asks}
 use Rattle.memory.proofs.Views.{kept-none, kept-then, view-in}
@@ -58,17 +58,22 @@ module _ (k : ℕ) (big : k ≡ memorySize) (m n : List ℕ) (h : k ≤ length m
 
 -- a turn over the rules
 module _ (b : List ℕ) (s : Sizes) where
-  visit-room : (t r : ℕ) {m n : List ℕ} → Started (theoryIn b s) r m n → r < s .rules → t < tagCount → view n (has t) r < view n sizeF r
+  all-lacking : (t r : ℕ) {m n : List ℕ} → Started (theoryIn b s) r m n → r < s .rules → t < tagCount → Lacks (view n) t r
   unfolding theoryIn
-  visit-room t r k h l = omega (arith, k .left t r l (omega arith), k .invariant .index .sizes r h)
+  all-lacking t r k h l = omega (arith, k .left t r l (omega arith), k .left (complement t) r (omega arith) (omega arith), k .invariant .index .sizes r h)
 
   module _ (r : ℕ) {m n : List ℕ} (e : judgementOf b ≡ Accepted s) (k : Started (theoryIn b s) r m n) (h : r < s .rules) where
     pub first-asks : Asks b s n r 0
-    first-asks = (e, k .invariant, h, omega arith, visit-room 0 r k h (omega arith))
+    first-asks = (e, k .invariant, h, omega arith, all-lacking 0 r k h (omega arith))
 
     pub second-asks : {o : List ℕ} → Visited (theoryIn b s) 0 r n o → Asks b s o r 2
-    second-asks v =
-        (e, v .invariant, h, omega arith, omega (arith, visit-room 2 r k h (omega arith), v .others 2 r (omega arith) (λ f _. absurd (omega arith)), v .sizes r))
+    second-asks v = (
+      e,
+      v .invariant,
+      h,
+      omega arith,
+      omega (arith, all-lacking 2 r k h (omega arith), v .others 2 r (omega arith) (λ f _. absurd (omega arith)), v .others 3 r (omega arith) (λ f _. absurd (omega arith)), v .sizes r),
+    )
 
   module _ (r : ℕ) {m n o p : List ℕ} (k : Started (theoryIn b s) r m n) (v : Visited (theoryIn b s) 0 r n o) (w : Visited (theoryIn b s) 2 r o p) where
     elsewhere : (t i : ℕ) → t < tagCount → (i ≡ r → ⊥) → view p (has t) i ≡ view n (has t) i

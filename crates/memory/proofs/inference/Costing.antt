@@ -13,10 +13,10 @@ use Rattle.logic.specs.Theory.{Theory, kindOf, bodyOf, isStrict}
 use Rattle.logic.specs.Inference.{allHave, oneHas}
 use Rattle.logic.specs.Reading.{visits, visited, decided, decides, naming, costOf, taggedBy, systemOf}
 use Rattle.logic.specs.Plain.{plainSystem}
-use Rattle.logic.proofs.Tests.{and-intro, and-left, and-right, and-true, at-most, cond-false, cond-true, eq→eqb, false-of, false-or, isnt-elim, isnt-intro, none-above, not-isnt, of-false, or-false, or-left, or-right, someOf-intro, test-cases, test-eq, true-of, true-or}
+use Rattle.logic.proofs.Tests.{and-intro, and-left, and-right, at-most, cond-false, cond-true, eq→eqb, false-or, isnt-elim, isnt-intro, none-above, of-false, or-false, or-left, or-right, someOf-intro, test-cases, true-of, true-or}
 use Rattle.logic.proofs.Lists.{filled-intro, pick-append, pick-more}
 use Rattle.logic.proofs.Sums.{count-upto, total-add, total-ext, total-next, weigh-both, weigh-false, weigh-true}
-use Rattle.logic.proofs.Bodies.{all-moves, one-moves}
+use Rattle.logic.proofs.Bodies.{all-same, one-same}
 use Rattle.logic.proofs.Literals.{join-split, split-below}
 use Rattle.table.specs.declared.format.Sizes.{Sizes}
 use Rattle.table.specs.declared.judge.Judgement.the-variants.{Accepted}
@@ -30,7 +30,7 @@ use Rattle.memory.specs.Memory.{view, useAt, heldOf, users, usesFrom, vi
 use Rattle.memory.specs.Api.{adds, UsesAt}
 use Rattle.memory.specs.Deciding.{decidedBy, chargeBy}
 use Rattle.memory.proofs.inference.Counting.{pick-all}
-use Rattle.memory.proofs.inference.Following.{and-no, fires-defeasibly, or-no, or-yes, out-defeasibly}
+use Rattle.memory.proofs.inference.Following.{fires-defeasibly, out-defeasibly}
 use Rattle.memory.proofs.index.Kinds.{strict-number}
 use Rattle.memory.proofs.uses.Users.{use-is, user-below, uses-begin, uses-finish}
 
@@ -120,17 +120,11 @@ module _ (d : Theory) (m : List ℕ) (ready : Ready d m) (p t : ℕ) (tag : t < 
   now-held = or-right (heldOf m (tagCount * p + t)) _ (eqb-refl (tagCount * p + t))
 
   -- a rule that does not use p is decided by no tag of p
-  all-same : (u r : ℕ) → ((a : ℕ) → T (member a (bodyOf d r)) → after a u ≡ before a u) → allHave d after u r ≡ allHave d before u r
-  all-same u r e = test-eq _ _ (all-moves d after before u r (λ a v. subst T (e a v))) (all-moves d before after u r (λ a v. subst T (sym (e a v))))
-
-  one-same : (u r : ℕ) → ((a : ℕ) → T (member a (bodyOf d r)) → after a u ≡ before a u) → oneHas d after u r ≡ oneHas d before u r
-  one-same u r e = test-eq _ _ (one-moves d after before u r (λ a v. subst T (e a v))) (one-moves d before after u r (λ a v. subst T (sym (e a v))))
-
   unused : (r : ℕ) → (T (member p (bodyOf d r)) → ⊥) → T (decides d 1 before after r) → ⊥
   unfolding decides
   unused r n u =
       isnt-elim _ (and-right _ _ u)
-      (subst T (ap₂ _or_ (all-same 2 r (same 2 (omega arith))) (one-same 3 r (same 3 (omega arith)))) (and-right _ _ (and-left _ _ u)))
+      (subst T (ap₂ _or_ (all-same d after before 2 r (same 2 (omega arith))) (one-same d after before 3 r (same 3 (omega arith)))) (and-right _ _ (and-left _ _ u)))
     where
       same : (v : ℕ) → v < tagCount → (a : ℕ) → T (member a (bodyOf d r)) → after a v ≡ before a v
       same v h a i = other-literal a v h (λ e. n (subst (λ z. T (member z (bodyOf d r))) e i))
@@ -166,7 +160,7 @@ module _ (d : Theory) (m : List ℕ) (ready : Ready d m) (p t : ℕ) (tag : t < 
       where
         by-all : t ≡ 2 → (decided d 1 after r and isnt (decided d 1 before r)) ≡ decidedBy (view m) t r
         by-all e =
-            ap (λ b. b and isnt (decided d 1 before r)) (ap₂ _or_ (all-after e) (one-same 3 r (λ a _. other-tag a 3 (omega arith) (λ f. omega arith))))
+            ap (λ b. b and isnt (decided d 1 before r)) (ap₂ _or_ (all-after e) (one-same d after before 3 r (λ a _. other-tag a 3 (omega arith) (λ f. omega arith))))
             ∙ grown-all (allHave d before 2 r) (eqb (view m (has 2) r + 1) (view m sizeF r)) (oneHas d before 3 r) ∙ open-before _
             ∙ ap (λ b. isnt (eqb (view m (has 2) r) (view m sizeF r)) and eqb (view m (has 3) r) 0 and b)
             (false-or (eqb t 3) (eqb (view m (has 2) r + 1) (view m sizeF r)) (λ u. let f : t ≡ 3 = eqb→eq t 3 u in omega arith))
@@ -174,7 +168,7 @@ module _ (d : Theory) (m : List ℕ) (ready : Ready d m) (p t : ℕ) (tag : t < 
         by-one : t ≡ 3 → (decided d 1 after r and isnt (decided d 1 before r)) ≡ decidedBy (view m) t r
         by-one e =
             ap (λ b. b and isnt (decided d 1 before r))
-            (ap₂ _or_ (all-same 2 r (λ a _. other-tag a 2 (omega arith) (λ f. omega arith))) (true-of (oneHas d after 3 r) (one-after e)))
+            (ap₂ _or_ (all-same d after before 2 r (λ a _. other-tag a 2 (omega arith) (λ f. omega arith))) (true-of (oneHas d after 3 r) (one-after e)))
             ∙ grown-one (allHave d before 2 r) (oneHas d before 3 r) ∙ open-before true
             ∙ ap (λ b. isnt (eqb (view m (has 2) r) (view m sizeF r)) and eqb (view m (has 3) r) 0 and b)
             (true-or (eqb t 3) (eqb (view m (has 2) r + 1) (view m sizeF r)) (eq→eqb t 3 e))
@@ -292,33 +286,20 @@ module _ (b : List ℕ) (s : Sizes) (m : List ℕ) (x : ℕ) (accepted : judgeme
         ∙ cost-by (theoryIn b s) m ready (x / tagCount) (x % tagCount) (mod-lt x (omega arith)) (ap (heldOf m) (join-split tagCount x) ∙ new) (λ r _. bodies-apart b s accepted r)
         ∙ ap (λ y. costOf (theoryIn b s) (x % tagCount / 2) (x / tagCount) (taggedBy tagCount (heldOf m)) (taggedBy tagCount (adds (heldOf m) y))) (join-split tagCount x)
 
--- the tests of a rule as they are read
+-- what a use adds, as it is read
 module _ (w : ℕ → ℕ → ℕ) (t r : ℕ) where
-  module _ {f : ℕ} (ef : f ≡ w (has 3) r) where
-    pub decided-refuted : (f ≡ 0 → ⊥) → false ≡ decidedBy w t r
-    decided-refuted h = and-no _ (false-of _ (λ u. h (ef ∙ eqb→eq _ _ (and-right _ _ u))))
-
-    module _ (z : f ≡ 0) {a n : ℕ} (ea : a ≡ w (has 2) r) (en : n ≡ w sizeF r) where
-      still : (isnt (eqb (w (has 2) r) (w sizeF r)) and eqb (w (has 3) r) 0) ≡ isnt (eqb a n)
-      still = ap₂ (λ x y. isnt x and y) (sym (ap₂ eqb ea en)) (true-of _ (eq→eqb _ _ (sym ef ∙ z))) ∙ and-true _ true tt
-
-      pub decided-by-one : t ≡ 3 → not (eqb a n) ≡ decidedBy w t r
-      decided-by-one e =
-          not-isnt (eqb a n) ∙ sym still
-          ∙ sym (and-true _ true tt) ∙ ap ((isnt (eqb (w (has 2) r) (w sizeF r)) and eqb (w (has 3) r) 0) and_) (or-yes _ (true-of _ (eq→eqb _ _ e)))
-
-      pub decided-by-all : (t ≡ 3 → ⊥) → eqb (a + 1) n ≡ decidedBy w t r
-      decided-by-all h =
-          test-eq (eqb (a + 1) n) (isnt (eqb a n) and eqb (a + 1) n) (λ u. and-intro _ _ (isnt-intro _ (λ v. let e : a + 1 ≡ n = eqb→eq _ _ u in let f : a ≡ n = eqb→eq _ _ v in omega arith)) u) (λ u. and-right _ _ u)
-          ∙ ap₂ _and_ (sym still) (ap₂ (λ x y. eqb (x + 1) y) ea en ∙ or-no _ (false-of _ (λ u. h (eqb→eq _ _ u))))
-
   pub read-definite : {k x : ℕ} → t < 2 → k ≡ w kindF r → x ≡ weigh (eqb k 0) 1 → x ≡ chargeBy w t r
   unfolding chargeBy
   read-definite h e f =
       f ∙ ap (λ k. weigh (eqb k 0) 1) e ∙ sym (cond-true (ltb t 2) (weigh (eqb (w kindF r) 0) 1) (1 + weigh (decidedBy w t r) (w namingF r)) (lt→ltb t 2 h))
 
-  pub read-defeasible : {b : Bool} {n x : ℕ} → 2 ≤ t → b ≡ decidedBy w t r → n ≡ w namingF r → x ≡ weigh b n → 1 + x ≡ chargeBy w t r
-  unfolding chargeBy
-  read-defeasible h e f g =
-      ap (1 +_) (g ∙ ap₂ weigh e f)
-      ∙ sym (cond-false (ltb t 2) (weigh (eqb (w kindF r) 0) 1) (1 + weigh (decidedBy w t r) (w namingF r)) (λ u. let l : t < 2 = ltb→lt t 2 u in omega arith))
+  module _ (h : 2 ≤ t) where
+    later : chargeBy w t r ≡ 1 + weigh (decidedBy w t r) (w namingF r)
+    unfolding chargeBy
+    later = cond-false (ltb t 2) (weigh (eqb (w kindF r) 0) 1) (1 + weigh (decidedBy w t r) (w namingF r)) (λ u. let l : t < 2 = ltb→lt t 2 u in omega arith)
+
+    pub read-decided : {n : ℕ} → T (decidedBy w t r) → n ≡ w namingF r → 1 + n ≡ chargeBy w t r
+    read-decided y e = ap (1 +_) (e ∙ sym (weigh-true (decidedBy w t r) (w namingF r) y)) ∙ sym later
+
+    pub read-undecided : decidedBy w t r ≡ false → 1 ≡ chargeBy w t r
+    read-undecided n = ap (1 +_) (sym (weigh-false (decidedBy w t r) (w namingF r) (of-false _ n))) ∙ sym later

@@ -10,11 +10,12 @@ use lib.Dec.{T, eqb, eqb→eq, eqb-refl}
 use lib.ListN.{length, getD, set, take, drop, length-set}
 use lib.Seq.{take-suc, take-all}
 use Rattle.logic.specs.Tests.{_and_, _or_, isnt, member, distinct, weigh, upto, pick}
-use Rattle.logic.specs.Theory.{Theory, bodyOf}
+use Rattle.logic.specs.Theory.{Theory, complement, bodyOf}
+use Rattle.logic.specs.System.{Coherent}
 use Rattle.logic.proofs.Tests.{and-intro, and-left, and-right, eq→eqb, of-false, of-true, or-elim, or-left, or-right, test-cases, test-eq, true-of}
-use Rattle.logic.proofs.Lists.{distinct-before, distinct-pick, distinct-upto, member-getD, member-last, member-left, member-nil, member-pick, member-pick-intro, member-snoc, member-upto-intro, pick-le}
+use Rattle.logic.proofs.Lists.{distinct-before, distinct-pick, distinct-upto, member-getD, member-last, member-left, member-nil, member-pick, member-pick-intro, member-snoc, member-upto-intro, pick-apart}
 use Rattle.logic.proofs.Sums.{pick-one-more, weigh-false, weigh-true}
-use Rattle.logic.proofs.Literals.{join-div, join-mod, join-split, split-below}
+use Rattle.logic.proofs.Literals.{complement-other, join-div, join-mod, join-split, split-below}
 use Rattle.table.specs.declared.format.Sizes.{Sizes}
 use Rattle.table.specs.declared.judge.Judgement.the-variants.{Accepted}
 use Rattle.table.specs.Format.{theoryIn}
@@ -22,19 +23,22 @@ use Rattle.table.specs.Refusals.{judgementOf}
 use Rattle.table.proofs.Legal.{legal, limited}
 use Rattle.table.proofs.Sorted.{bodies-apart}
 use Rattle.memory.specs.Layout.{tagCount, fieldCount, fieldSize, usesSize, memorySize}
-use Rattle.memory.specs.Fields.{mark, has, sizeF}
+use Rattle.memory.specs.Fields.{mark, has}
 use Rattle.memory.specs.Memory.{view, useAt, heldOf, writtenOf, users, antecedents, virtual, Invariant, Ready}
-use Rattle.memory.specs.Api.{adds, UsesAt, Kept, Visited, Added}
+use Rattle.memory.specs.Api.{adds, UsesAt, Kept, Lacks, Visited, Added}
 use Rattle.memory.specs.Visits.{Spread}
 use Rattle.memory.proofs.Views.{kept-then, rest-set, use-set, view-set, view-set-field, view-set-index}
 use Rattle.memory.proofs.visit.Steps.{invariant-marks}
 use Rattle.memory.proofs.uses.Users.{use-is, use-small, user-below}
 
-virtual-le : (t : ℕ) → virtual t ≤ 1
+-- of a tag and its opposite, the virtual antecedent has one
+virtual-both : (t : ℕ) → t < tagCount → virtual t + virtual (complement t) ≤ 1
 unfolding virtual
-virtual-le zero = omega arith
-virtual-le (suc zero) = omega arith
-virtual-le (suc (suc t)) = virtual-le t
+virtual-both zero h = omega arith
+virtual-both (suc zero) h = omega arith
+virtual-both (suc (suc zero)) h = omega arith
+virtual-both (suc (suc (suc zero))) h = omega arith
+virtual-both (suc (suc (suc (suc t)))) h = absurd (omega arith)
 
 -- what is held with tag t, as a test of literals
 abbrev heldWith : List ℕ → ℕ → ℕ → Bool
@@ -105,15 +109,33 @@ module _ (d : Theory) (bodies : (r : ℕ) → T (distinct (bodyOf d r))) (p t : 
       unfolding users
       new v = distinct-before (users d p) (k - first) (distinct-pick _ _ (distinct-upto (d .rules))) place (subst (λ z. T (member z (take (k - first) (users d p)))) rule-is v)
 
-      pub use-asks : heldOf m₀ (tagCount * p + t) ≡ false → view m (has t) r < view m sizeF r
-      use-asks n =
+      -- no antecedent of the rule has the tag and its opposite, also once p has it
+      apart : Coherent (adds (heldOf m₀) (tagCount * p + t)) → (a : ℕ) → T (heldWith m₀ t a or eqb a p) → T (heldWith m₀ (complement t) a) → ⊥
+      unfolding Coherent
+      apart c a u v =
+          let i : tagCount * a + complement t ≡ complement (tagCount * a + t) = omega arith in
+          c (tagCount * a + t)
+          (⊎-elim (or-left _ _) (λ g. let j : a ≡ p = eqb→eq a p g in or-right _ _ (eq→eqb (tagCount * a + t) (tagCount * p + t) (omega arith))) (or-elim _ _ u))
+          (or-left _ _ (subst (λ z. T (heldOf m₀ z)) i v))
+
+      pub use-asks : heldOf m₀ (tagCount * p + t) ≡ false → Coherent (adds (heldOf m₀) (tagCount * p + t)) → Lacks (view m) t r
+      use-asks n coherent =
+          let o : complement t < tagCount = omega arith in
+          let a' : view m (has (complement t)) r ≡ view m₀ (has (complement t)) r + weigh (eqb (complement t) t and member r (take (k - first) (users d p))) 1 = w .words (complement t) r o use-below in
+          let z' : weigh (eqb (complement t) t and member r (take (k - first) (users d p))) 1 ≡ 0 = weigh-false _ 1 (λ v. complement-other t (eqb→eq _ _ (and-left _ _ v))) in
+          let c' : view m₀ (has (complement t)) r ≡ virtual (complement t) + length (pick (bodyOf d r) (heldWith m₀ (complement t))) = ready .tagged (complement t) r o use-below in
           let a : view m (has t) r ≡ view m₀ (has t) r + weigh (eqb t t and member r (take (k - first) (users d p))) 1 = w .words t r tag use-below in
           let z : weigh (eqb t t and member r (take (k - first) (users d p))) 1 ≡ 0 = weigh-false _ 1 (λ v. new (and-right _ _ v)) in
           let c : view m₀ (has t) r ≡ virtual t + length (pick (bodyOf d r) (heldWith m₀ t)) = ready .tagged t r tag use-below in
           let y : length (pick (bodyOf d r) (λ a. heldWith m₀ t a or eqb a p)) ≡ length (pick (bodyOf d r) (heldWith m₀ t)) + weigh (member p (bodyOf d r)) 1 =
           pick-one-more (bodyOf d r) (heldWith m₀ t) (λ a. heldWith m₀ t a or eqb a p) p (bodies r) (of-false _ n) (or-right _ _ (eqb-refl p)) (λ a o. test-eq _ _ (λ v. ⊎-elim (λ x. x) (λ x. absurd (o (eqb→eq a p x))) (or-elim _ _ v)) (or-left _ _)) in
           let x : weigh (member p (bodyOf d r)) 1 ≡ 1 = weigh-true _ 1 in-body in
-          omega (arith, pick-le (bodyOf d r) (λ a. heldWith m₀ t a or eqb a p), virtual-le t, w .invariant .index .sizes r use-below)
+          omega (
+            arith,
+            pick-apart (bodyOf d r) (λ a. heldWith m₀ t a or eqb a p) (heldWith m₀ (complement t)) (apart coherent),
+            virtual-both t tag,
+            w .invariant .index .sizes r use-below,
+          )
 
       pub spread-next : (n : List ℕ) → Visited d t r m n → Spreading d p t first m₀ n (k + 1)
       spread-next n v =
@@ -232,7 +254,7 @@ module _ (d : Theory) (bodies : (r : ℕ) → T (distinct (bodyOf d r))) (few : 
 
 -- the walk over the uses, of the values that the code has at hand
 module _ (b : List ℕ) (s : Sizes) (m₀ : List ℕ) (p t : ℕ)
-    (a : (judgementOf b ≡ Accepted s) × Ready (theoryIn b s) m₀ × (p < 2 * s .atoms) × (t < tagCount) × (heldOf m₀ (tagCount * p + t) ≡ false))
+    (a : (judgementOf b ≡ Accepted s) × Ready (theoryIn b s) m₀ × (p < 2 * s .atoms) × (t < tagCount) × (heldOf m₀ (tagCount * p + t) ≡ false) × Coherent (adds (heldOf m₀) (tagCount * p + t)))
     {first end : ℕ} (at : UsesAt (theoryIn b s) p first end) where
   in-theory : p < 2 * theoryIn b s .atoms
   unfolding theoryIn
@@ -250,14 +272,14 @@ module _ (b : List ℕ) (s : Sizes) (m₀ : List ℕ) (p t : ℕ)
       use-asks-small = (spread-small (theoryIn b s) (bodies-apart b s (a .0)) p t in-theory (a .3) m₀ (a .1) at m k w h, w .invariant .room)
 
       pub visit-asks : (r : ℕ) → r ≡ useAt m k
-          → (judgementOf b ≡ Accepted s) × Invariant (theoryIn b s) m × (r < s .rules) × (t < tagCount) × (view m (has t) r < view m sizeF r)
+          → (judgementOf b ≡ Accepted s) × Invariant (theoryIn b s) m × (r < s .rules) × (t < tagCount) × Lacks (view m) t r
       unfolding theoryIn
       visit-asks r f = (
         a .0,
         w .invariant,
         use-below (theoryIn b s) (bodies-apart b s (a .0)) p t in-theory (a .3) m₀ (a .1) at m k w h r f,
         a .3,
-        use-asks (theoryIn b s) (bodies-apart b s (a .0)) p t in-theory (a .3) m₀ (a .1) at m k w h r f (a .4),
+        use-asks (theoryIn b s) (bodies-apart b s (a .0)) p t in-theory (a .3) m₀ (a .1) at m k w h r f (a .4) (a .5),
       )
 
       pub uses-next-of : (r : ℕ) → r ≡ useAt m k → (n : List ℕ) → Visited (theoryIn b s) t r m n → Spreading (theoryIn b s) p t first m₀ n (k + 1)
@@ -265,17 +287,18 @@ module _ (b : List ℕ) (s : Sizes) (m₀ : List ℕ) (p t : ℕ)
 
 -- and the whole
 module _ (b : List ℕ) (s : Sizes) (m : List ℕ) (x p t : ℕ) (e : p ≡ x / tagCount) (f : t ≡ x % tagCount)
-    (a : (judgementOf b ≡ Accepted s) × Ready (theoryIn b s) m × (x < tagCount * (2 * s .atoms)) × (writtenOf m x ≡ true) × (heldOf m x ≡ false)) where
+    (a : (judgementOf b ≡ Accepted s) × Ready (theoryIn b s) m × (x < tagCount * (2 * s .atoms)) × (writtenOf m x ≡ true) × (heldOf m x ≡ false) × Coherent (adds (heldOf m) x)) where
   atoms-few : s .atoms ≤ 512
   atoms-few = limited s (legal b s (a .0) .limits) .atoms
 
   quarter : x / tagCount < 2 * s .atoms
   quarter = let h : x < tagCount * (2 * s .atoms) = omega (arith, a .2) in split-below tagCount (2 * s .atoms) x (omega arith) h
 
-  pub uses-asks : ((judgementOf b ≡ Accepted s) × Ready (theoryIn b s) m × (p < 2 * s .atoms) × (t < tagCount) × (heldOf m (tagCount * p + t) ≡ false)) × ((p < fieldSize) × (memorySize ≤ length m))
+  pub uses-asks : ((judgementOf b ≡ Accepted s) × Ready (theoryIn b s) m × (p < 2 * s .atoms) × (t < tagCount) × (heldOf m (tagCount * p + t) ≡ false) × Coherent (adds (heldOf m) (tagCount * p + t))) × ((p < fieldSize) × (memorySize ≤ length m))
   uses-asks =
-      let r : x % tagCount < tagCount = mod-lt x (omega arith) in (
-        (a .0, a .1, omega (arith, quarter), omega arith, ap (heldOf m) (ap₂ (λ y z. tagCount * y + z) e f ∙ join-split tagCount x) ∙ a .4),
+      let r : x % tagCount < tagCount = mod-lt x (omega arith) in
+      let i : tagCount * p + t ≡ x = ap₂ (λ y z. tagCount * y + z) e f ∙ join-split tagCount x in (
+        (a .0, a .1, omega (arith, quarter), omega arith, ap (heldOf m) i ∙ a .4, subst (λ z. Coherent (adds (heldOf m) z)) (sym i) (a .5)),
         (omega (arith, quarter, atoms-few), a .1 .invariant .room),
       )
 

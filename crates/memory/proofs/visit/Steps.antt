@@ -9,13 +9,13 @@ use lib.Dec.{T, ltb, eqb, eqb→eq, eqb-refl, ltb→lt, lt→ltb}
 use lib.ListN.{length, set, length-set}
 use Rattle.logic.specs.Tests.{_and_, _or_, weigh, upto}
 use Rattle.logic.specs.Theory.{Theory, Kind, isStrict, canSupport, kindOf, headOf}
-use Rattle.logic.proofs.Tests.{and-intro, and-left, and-right, at-most, cond-cases, cond-false, cond-true, eq→eqb, isnt-elim, isnt-intro, lt-suc-cases, none-above, of-false, of-true, or-elim, or-left, test-cases, test-eq, true-of}
+use Rattle.logic.proofs.Tests.{and-intro, and-left, and-right, at-most, cond-cases, cond-false, cond-true, eq→eqb, false-of, isnt-elim, isnt-intro, lt-suc-cases, none-above, of-false, of-true, or-elim, or-left, test-cases, test-eq, true-of}
 use Rattle.logic.proofs.Sums.{weigh-false, weigh-true}
 use Rattle.logic.proofs.Pigeon.{count-le}
 use Rattle.memory.specs.Layout.{tagCount, fieldCount, fieldSize, usesSize, memorySize}
 use Rattle.memory.specs.Fields.{has, sizeF, headF, kindF, namingF, rivalsF, firstF, beatenF, lostF, usesF, strictF, supportF, headedF, factF, provedF, firingF, counteredF, rivalsEnd, countsEnd, rivalsBase, rivalsBy, rulesBy, byRival, byItself, inIndex}
-use Rattle.memory.specs.Memory.{view, useAt, users, Indexed, Invariant}
-use Rattle.memory.specs.Api.{Kept, Visited}
+use Rattle.memory.specs.Memory.{view, useAt, users, Indexed, NeverBothAt, Invariant}
+use Rattle.memory.specs.Api.{Kept, Lacks, Visited}
 use Rattle.memory.specs.Indexing.{rivals}
 use Rattle.memory.specs.Visits.{WellFormed, Grown, Raised, threshold, justReached, reached, allowed, decidedFor, notifies, notifiedBelow, isFree, justReachedByRival, CountedBy, Open, Unchanged, Decided, Notified}
 use Rattle.memory.proofs.Views.{below-index, kept-then, past-rule, rest-set, use-set, view-set, view-set-field, view-set-index}
@@ -52,37 +52,67 @@ raised-index d m n f i k o g x = index-same d (view m) (view n) (useAt m) (useAt
 raised-room : (m n : List ℕ) (f i k : ℕ) → Raised f i k m n → memorySize ≤ length m → memorySize ≤ length n
 raised-room m n f i k g h = omega (arith, g .kept .size)
 
+-- a claim about the two defeasible tags
+pub tag-cases : (P : ℕ → Type 0) → P 2 → P 3 → (t : ℕ) → 2 ≤ t → t < tagCount → P t
+tag-cases P a b t lo hi = ⊎-elim (λ h. subst P (omega arith) a) (λ e. subst P (sym e) b) (lt-suc-cases t 3 hi)
+
+-- the words of a rule's antecedents are the same
+never-same : (w v : ℕ → ℕ → ℕ) (r : ℕ) → v (has 2) r ≡ w (has 2) r → v (has 3) r ≡ w (has 3) r → v sizeF r ≡ w sizeF r → NeverBothAt w r → NeverBothAt v r
+never-same w v r e f g n = omega arith
+
 -- a word that is no part of the index grows
-pub open-raised : (d : Theory) (m n : List ℕ) (p b p' b' : ℕ → ℕ → Bool) (f i k : ℕ) → (T (inIndex f) → ⊥) → Raised f i k m n → Open d m p b
+open-grown : (d : Theory) (m n : List ℕ) (p b p' b' : ℕ → ℕ → Bool) (f i k : ℕ) → (T (inIndex f) → ⊥) → Raised f i k m n → Open d m p b
+    → ((r : ℕ) → r < d .rules → NeverBothAt (view n) r) → CountedBy d (view n) p' b' → Open d n p' b'
+open-grown d m n p b p' b' f i k a g o e t =
+    record { room = raised-room m n f i k g (o .room); index = raised-index d m n f i k a g (o .index); counts = t; never = e }
+
+-- one of the counts
+pub open-raised : (d : Theory) (m n : List ℕ) (p b p' b' : ℕ → ℕ → Bool) (f i k : ℕ) → beatenF ≤ f → (T (inIndex f) → ⊥) → Raised f i k m n → Open d m p b
     → CountedBy d (view n) p' b' → Open d n p' b'
-open-raised d m n p b p' b' f i k a g o t =
-    record { room = raised-room m n f i k g (o .room); index = raised-index d m n f i k a g (o .index); counts = t }
+open-raised d m n p b p' b' f i k l a g o t =
+    open-grown d m n p b p' b' f i k a g o
+    (λ r h. never-same (view m) (view n) r (g .words .field (has 2) r (λ e. omega arith)) (g .words .field (has 3) r (λ e. omega arith)) (g .words .field sizeF r (λ e. omega arith)) (o .never r h)) t
+
+-- one antecedent more has a tag
+lacks-never : (w v : ℕ → ℕ → ℕ) (t r : ℕ) → t < tagCount → Lacks w t r → Grown (has t) r 1 w v → (x : ℕ) → NeverBothAt w x → NeverBothAt v x
+lacks-never w v t r h l g x n =
+    ⊎-elim (λ e. subst (NeverBothAt v) (sym (eqb→eq x r e)) (⊎-elim (λ lo. tag-cases (λ u. Grown (has u) r 1 w v → Lacks w u r → NeverBothAt v r) two three t lo h g l) (definite (subst (NeverBothAt w) (eqb→eq x r e) n)) (at-most 2 t)))
+    (λ o. let i : x ≡ r → ⊥ = λ e. o (eq→eqb x r e) in never-same w v x (g .index (has 2) x i) (g .index (has 3) x i) (g .index sizeF x i) n) (test-cases (eqb x r))
+  where
+    two : Grown (has 2) r 1 w v → Lacks w 2 r → NeverBothAt v r
+    two g l = let a : w (has 2) r + w (has 3) r < w sizeF r = l in omega (arith, g .here, g .field (has 3) r (λ e. omega arith), g .field sizeF r (λ e. omega arith))
+
+    three : Grown (has 3) r 1 w v → Lacks w 3 r → NeverBothAt v r
+    three g l = let a : w (has 3) r + w (has 2) r < w sizeF r = l in omega (arith, g .here, g .field (has 2) r (λ e. omega arith), g .field sizeF r (λ e. omega arith))
+
+    definite : NeverBothAt w r → t < 2 → NeverBothAt v r
+    definite y k = never-same w v r (g .field (has 2) r (λ e. omega arith)) (g .field (has 3) r (λ e. omega arith)) (g .field sizeF r (λ e. omega arith)) y
 
 -- the counts of a word for a tag of a rule lag behind it
-pub open-tag : (d : Theory) (m n : List ℕ) (p b : ℕ → ℕ → Bool) (t r : ℕ) → t < tagCount → Raised (has t) r 1 m n → Open d m p b → Open d n p b
-open-tag d m n p b t r h g o =
-    open-raised d m n p b p b (has t) r 1 (below-index (has t) (omega arith)) g o
+pub open-tag : (d : Theory) (m n : List ℕ) (p b : ℕ → ℕ → Bool) (t r : ℕ) → t < tagCount → Lacks (view m) t r → Raised (has t) r 1 m n → Open d m p b → Open d n p b
+open-tag d m n p b t r h l g o =
+    open-grown d m n p b p b (has t) r 1 (below-index (has t) (omega arith)) g o (λ x k. lacks-never (view m) (view n) t r h l (g .words) x (o .never x k))
     (counts-ext d (view m) (view n) p p b b (λ f i lo _. g .words .field f i (λ e. omega arith)) (λ _ _ _ _ _. refl) (λ _ _ _ _ _ _. refl) (o .counts))
 
 pub open-literal : (d : Theory) (m n : List ℕ) (p b p' : ℕ → ℕ → Bool) (f r k : ℕ) → provedF ≤ f → f < countsEnd → r < d .rules → Raised f (headOf d r) k m n
     → ((g x : ℕ) → provedF ≤ g → g < countsEnd → x < d .rules → (g ≡ f → x ≡ r → ⊥) → p' g x ≡ p g x)
     → weigh (allowed f (kindOf d r) and p' f r) 1 ≡ weigh (allowed f (kindOf d r) and p f r) 1 + k → Open d m p b → Open d n p' b
 open-literal d m n p b p' f r k lo hi h g other e o =
-    open-raised d m n p b p' b f (headOf d r) k (past-rule f (omega arith) (inr lo)) g o (counts-literal d (view m) (view n) p b (o .counts) p' f r k lo hi h (g .words) other e)
+    open-raised d m n p b p' b f (headOf d r) k (omega arith) (past-rule f (omega arith) (inr lo)) g o (counts-literal d (view m) (view n) p b (o .counts) p' f r k lo hi h (g .words) other e)
 
 pub open-ext : (d : Theory) (m : List ℕ) (p p' b b' : ℕ → ℕ → Bool) → ((f r : ℕ) → provedF ≤ f → f < countsEnd → r < d .rules → p' f r ≡ p f r)
     → ((g i : ℕ) → beatenF ≤ g → g < rivalsEnd → i < d .pairs → T (canSupport (kindOf d (d .pair i .stronger))) → b' g i ≡ b g i) → Open d m p b → Open d m p' b'
 open-ext d m p p' b b' f g o =
-    record { room = o .room; index = o .index; counts = counts-ext d (view m) (view m) p p' b b' (λ _ _ _ _. refl) f g (o .counts) }
+    record { room = o .room; index = o .index; counts = counts-ext d (view m) (view m) p p' b b' (λ _ _ _ _. refl) f g (o .counts); never = o .never }
 
 -- between two visits
 pub open-of : (d : Theory) (m : List ℕ) → Invariant d m → Open d m (decidedFor (view m)) (notifies d (view m))
 unfolding reached
-open-of d m s = record { room = s .room; index = s .index; counts = counts-of d (view m) (notifies d (view m)) (s .counts) }
+open-of d m s = record { room = s .room; index = s .index; counts = counts-of d (view m) (notifies d (view m)) (s .counts); never = s .never }
 
 pub invariant-of : (d : Theory) (m : List ℕ) → Open d m (decidedFor (view m)) (notifies d (view m)) → Invariant d m
 unfolding reached
-invariant-of d m o = record { room = o .room; index = o .index; counts = counted-of d (view m) (notifies d (view m)) (o .counts) }
+invariant-of d m o = record { room = o .room; index = o .index; counts = counted-of d (view m) (notifies d (view m)) (o .counts); never = o .never }
 
 pub raised-unchanged : {f i k : ℕ} {m n : List ℕ} → beatenF ≤ f → Raised f i k m n → Unchanged m n
 raised-unchanged h g = record { low = λ f i l. g .words .field f i (λ e. omega arith); kept = g .kept }
@@ -112,6 +142,7 @@ invariant-marks d m n e u k s =
       counts = counts-ext d (view m) (view n) (decidedFor (view m)) (decidedFor (view n)) (notifies d (view m)) (notifies d (view n)) (λ f i lo _. e f i (omega arith))
           (λ f x lo hi _. decided-marks (view m) (view n) e f x lo hi)
           (λ g i lo hi _ _. reached-same (view m) (view n) (g - rivalsBase) (d .pair i .stronger) (e (has (g - rivalsBase)) (d .pair i .stronger) (omega arith)) (e sizeF (d .pair i .stronger) (omega arith))) (open-of d m s .counts);
+      never = λ r h. never-same (view m) (view n) r (e (has 2) r (omega arith)) (e (has 3) r (omega arith)) (e sizeF r (omega arith)) (s .never r h);
     })
 
 -- what the counts of a rule's own tag are about
@@ -144,7 +175,7 @@ reached-elsewhere d m m' n t r u x h k g y o =
     reached-same (view m) (view n) u x (y .low (has u) x (omega arith) ∙ grown-other (g .words) (has u) x (λ e. o (omega arith))) (y .low sizeF x (omega arith) ∙ g .words .field sizeF x (λ e. omega arith))
 
 -- a visit with a definite tag
-pub visit-definite : (d : Theory) (m m' n : List ℕ) (t r : ℕ) → t < 2 → r < d .rules → Invariant d m → view m (has t) r < view m sizeF r → Raised (has t) r 1 m m'
+pub visit-definite : (d : Theory) (m m' n : List ℕ) (t r : ℕ) → t < 2 → r < d .rules → Invariant d m → Lacks (view m) t r → Raised (has t) r 1 m m'
     → Raised (rulesBy t) (headOf d r) (weigh (eqb (view m' (has t) r) (threshold t (view m sizeF r)) and isStrict (kindOf d r)) 1) m' n → Visited d t r m n
 visit-definite d m m' n t r h k s b g g' =
     visited-of d m m' n t r (omega arith) g (raised-unchanged (omega arith) g')
@@ -154,12 +185,8 @@ visit-definite d m m' n t r h k s b g g' =
     (λ f i lo hi _ _. reached-elsewhere d m m' n t r (f - rivalsBase) (d .pair i .stronger) (omega arith) (omega arith) g (raised-unchanged (omega arith) g') (λ e _. omega arith))
     (open-literal d m' n (decidedFor (view m)) (notifies d (view m)) (decidedFor (view m')) (rulesBy t) r _ (omega arith) (omega arith) k g'
     (λ f x lo hi _ o. decided-tag (view m) (view m') t r (omega arith) (g .words) f x lo hi (λ i. ⊎-elim (λ e. o e i) (λ e. omega arith)))
-    (own-turns (view m) (view m') t r (rulesBy t) (kindOf d r) (isStrict (kindOf d r)) (omega arith) refl (allowed-strict (rulesBy t) (kindOf d r) (omega arith)) (g .words) b)
-    (open-tag d m m' (decidedFor (view m)) (notifies d (view m)) t r (omega arith) g (open-of d m s)))))
-
--- a claim about the two defeasible tags
-pub tag-cases : (P : ℕ → Type 0) → P 2 → P 3 → (t : ℕ) → 2 ≤ t → t < tagCount → P t
-tag-cases P a b t lo hi = ⊎-elim (λ h. subst P (omega arith) a) (λ e. subst P (sym e) b) (lt-suc-cases t 3 hi)
+    (own-turns (view m) (view m') t r (rulesBy t) (kindOf d r) (isStrict (kindOf d r)) (omega arith) refl (allowed-strict (rulesBy t) (kindOf d r) (omega arith)) (g .words) (omega arith))
+    (open-tag d m m' (decidedFor (view m)) (notifies d (view m)) t r (omega arith) b g (open-of d m s)))))
 
 -- how rule r itself becomes unopposed (t = 2) or countered (t = 3)
 FreeTurns : ℕ → Type 0
@@ -182,10 +209,13 @@ free-turns : (t : ℕ) → 2 ≤ t → t < tagCount → FreeTurns t
 free-turns = tag-cases FreeTurns free-unopposed free-countered
 
 -- A visit with a defeasible tag, up to the walk. First the rule's own word, then its two counts.
-module _ (d : Theory) (m m1 m2 m3 : List ℕ) (t r : ℕ) (lo : 2 ≤ t) (hi : t < tagCount) (h : r < d .rules) (s : Invariant d m) (b : view m (has t) r < view m sizeF r)
+module _ (d : Theory) (m m1 m2 m3 : List ℕ) (t r : ℕ) (lo : 2 ≤ t) (hi : t < tagCount) (h : r < d .rules) (s : Invariant d m) (b : Lacks (view m) t r)
     (g : Raised (has t) r 1 m m1)
     (g1 : Raised (byItself t) (headOf d r) (weigh (eqb (view m1 (has t) r) (threshold t (view m sizeF r)) and isFree (view m1) t r) 1) m1 m2)
     (g2 : Raised (rulesBy t) (headOf d r) (weigh (eqb (view m1 (has t) r) (threshold t (view m sizeF r)) and canSupport (kindOf d r)) 1) m2 m3) where
+  short : view m (has t) r < view m sizeF r
+  short = omega arith
+
   between : ℕ → ℕ → Bool
   between f x = cond (eqb f (byItself t)) (decidedFor (view m1) f x) (decidedFor (view m) f x)
 
@@ -196,8 +226,8 @@ module _ (d : Theory) (m m1 m2 m3 : List ℕ) (t r : ℕ) (lo : 2 ≤ t) (hi : t
       (λ f x l k _ o. cond-cases (λ z. z ≡ decidedFor (view m) f x) (eqb f (byItself t)) _ _
       (λ e. decided-tag (view m) (view m1) t r hi (g .words) f x l k (λ i _. o (eqb→eq _ _ e) i)) (λ _. refl))
       (ap (λ z. weigh (allowed (byItself t) (kindOf d r) and z) 1) (cond-true (eqb (byItself t) (byItself t)) _ _ (eqb-refl (byItself t)))
-      ∙ free-turns t lo hi (view m) (view m1) r (kindOf d r) (g .words) b)
-      (open-tag d m m1 (decidedFor (view m)) (notifies d (view m)) t r hi g (open-of d m s))
+      ∙ free-turns t lo hi (view m) (view m1) r (kindOf d r) (g .words) short)
+      (open-tag d m m1 (decidedFor (view m)) (notifies d (view m)) t r hi b g (open-of d m s))
 
   own-second : Open d m3 (decidedFor (view m1)) (notifies d (view m))
   unfolding between
@@ -205,7 +235,7 @@ module _ (d : Theory) (m m1 m2 m3 : List ℕ) (t r : ℕ) (lo : 2 ≤ t) (hi : t
       open-literal d m2 m3 between (notifies d (view m)) (decidedFor (view m1)) (rulesBy t) r _ (omega arith) (omega arith) h g2
       (λ f x l k _ o. cond-cases (λ z. decidedFor (view m1) f x ≡ z) (eqb f (byItself t)) _ _ (λ _. refl)
       (λ n. decided-tag (view m) (view m1) t r hi (g .words) f x l k (λ i. ⊎-elim (λ e. o e i) (λ e. n (eq→eqb f (byItself t) (omega arith))))))
-      (own-turns (view m) (view m1) t r (rulesBy t) (kindOf d r) (canSupport (kindOf d r)) hi refl (allowed-support (rulesBy t) (kindOf d r) (omega arith) (omega arith)) (g .words) b
+      (own-turns (view m) (view m1) t r (rulesBy t) (kindOf d r) (canSupport (kindOf d r)) hi refl (allowed-support (rulesBy t) (kindOf d r) (omega arith) (omega arith)) (g .words) short
       ∙ ap (λ z. weigh (allowed (rulesBy t) (kindOf d r) and z) 1 + weigh (eqb (view m1 (has t) r) (threshold t (view m sizeF r)) and canSupport (kindOf d r)) 1)
       (sym (cond-false (eqb (rulesBy t) (byItself t)) _ _ (λ e. let i : rulesBy t ≡ byItself t = eqb→eq _ _ e in omega arith))))
       own-first
@@ -224,7 +254,7 @@ module _ (d : Theory) (m m1 m2 m3 : List ℕ) (t r : ℕ) (lo : 2 ≤ t) (hi : t
       (λ e j. o (and-intro _ _ (eq→eqb f (rivalsBy t) (omega arith)) (eq→eqb _ _ j)))
 
   turns : Turns (reached (view m1) t r) (reached (view m) t r) (eqb (view m1 (has t) r) (threshold t (view m sizeF r)))
-  turns = reached-step (view m) (view m1) t r hi (g .words) b
+  turns = reached-step (view m) (view m1) t r hi (g .words) short
 
   last : reached (view m3) t r ≡ reached (view m1) t r
   last = reached-same (view m1) (view m3) t r (unchanged .low (has t) r (omega arith)) (unchanged .low sizeF r (omega arith))
@@ -302,13 +332,31 @@ module _ (w : ℕ → ℕ → ℕ) (t r : ℕ) where
   unfolding isFree
   free-three e f = ap (λ z. eqb z 0) f ∙ sym (cond-false (eqb t 2) _ _ (λ u. e (eqb→eq t 2 u)))
 
-  pub by-rival-two : {a b : ℕ} {x : Bool} → t ≡ 2 → a ≡ w beatenF r → b ≡ w (has 3) r → x ≡ eqb a 1 and eqb b 0 → x ≡ justReachedByRival w t r
+-- whether a rule is just countered by a rival that fires
+module _ (w : ℕ → ℕ → ℕ) (r : ℕ) where
+  pub countered-now : w beatenF r ≡ 1 → w (has 3) r ≡ 0 → true ≡ justReachedByRival w 2 r
   unfolding justReachedByRival
-  by-rival-two e f g h = h ∙ ap₂ (λ y z. eqb y 1 and eqb z 0) f g ∙ sym (cond-true (eqb t 2) _ _ (eq→eqb t 2 e))
+  countered-now e f = sym (true-of _ (and-intro _ _ (eq→eqb (w beatenF r) 1 e) (eq→eqb (w (has 3) r) 0 f)))
 
-  pub by-rival-three : {a b a' b' : ℕ} {x : Bool} → (t ≡ 2 → ⊥) → a ≡ w lostF r → b ≡ w rivalsF r → a' ≡ w (has 2) r → b' ≡ w sizeF r → x ≡ eqb a b and eqb a' b' → x ≡ justReachedByRival w t r
+  pub countered-not : (w beatenF r ≡ 1 → w (has 3) r ≡ 0 → ⊥) → false ≡ justReachedByRival w 2 r
   unfolding justReachedByRival
-  by-rival-three e f g f' g' h = h ∙ ap₂ (λ y z. y and z) (ap₂ eqb f g) (ap₂ eqb f' g') ∙ sym (cond-false (eqb t 2) _ _ (λ u. e (eqb→eq t 2 u)))
+  countered-not n = sym (false-of _ (λ u. n (eqb→eq (w beatenF r) 1 (and-left _ _ u)) (eqb→eq (w (has 3) r) 0 (and-right _ _ u))))
+
+  -- and unopposed by one that is out
+  pub unopposed-now : w lostF r ≡ w rivalsF r → w (has 2) r ≡ w sizeF r → true ≡ justReachedByRival w 3 r
+  unfolding justReachedByRival
+  unopposed-now e f = sym (true-of _ (and-intro _ _ (eq→eqb (w lostF r) (w rivalsF r) e) (eq→eqb (w (has 2) r) (w sizeF r) f)))
+
+  pub unopposed-not : (w lostF r ≡ w rivalsF r → w (has 2) r ≡ w sizeF r → ⊥) → false ≡ justReachedByRival w 3 r
+  unfolding justReachedByRival
+  unopposed-not n = sym (false-of _ (λ u. n (eqb→eq (w lostF r) (w rivalsF r) (and-left _ _ u)) (eqb→eq (w (has 2) r) (w sizeF r) (and-right _ _ u))))
+
+module _ (w : ℕ → ℕ → ℕ) (t r : ℕ) {x : Bool} where
+  pub by-rival-two : t ≡ 2 → x ≡ justReachedByRival w 2 r → x ≡ justReachedByRival w t r
+  by-rival-two e f = f ∙ ap (λ u. justReachedByRival w u r) (sym e)
+
+  pub by-rival-three : t ≡ 3 → x ≡ justReachedByRival w 3 r → x ≡ justReachedByRival w t r
+  by-rival-three e f = f ∙ ap (λ u. justReachedByRival w u r) (sym e)
 
 pub threshold-even : (t n : ℕ) → t % 2 ≡ 0 → n ≡ threshold t n
 unfolding threshold
@@ -318,16 +366,47 @@ pub threshold-odd : (t n : ℕ) → (t % 2 ≡ 0 → ⊥) → 1 ≡ threshold t 
 unfolding threshold
 threshold-odd t n e = sym (cond-false (eqb (t % 2) 0) _ _ (λ u. e (eqb→eq _ _ u)))
 
--- the two counts that grow when a rule is notified
-pub notified-of : (q x t h : ℕ) (a b c : Bool) (m m' n : List ℕ) → h ≡ view m headF x → a ≡ eqb h q → b ≡ justReachedByRival (view m') t x → c ≡ a and b
-    → Raised (rivalsBy t) x (weigh a 1) m m' → Raised (byRival t) h (weigh c 1) m' n → Notified q x t m n
-notified-of q x t h a b c m m' n e f g k r u =
-    record {
-      middle = m';
-      first = subst (λ z. Raised (rivalsBy t) x (weigh z 1) m m') (f ∙ ap (λ z. eqb z q) e) r;
-      second = subst (λ z. Raised (byRival t) z (weigh (eqb z q and justReachedByRival (view m') t x) 1) m' n) e
-          (subst (λ z. Raised (byRival t) h (weigh z 1) m' n) (k ∙ ap₂ (λ y z. y and z) f g) u);
-    }
+-- Rule x is notified, whose head is h.
+module _ (q x t h : ℕ) (m : List ℕ) (e : h ≡ view m headF x) where
+  -- of a rule that is no rival
+  pub unnotified : (h ≡ q → ⊥) → Notified q x t m m
+  unnotified n =
+      record {
+        middle = m;
+        first = raised-no m (rivalsBy t) x _ no;
+        second = raised-no m (byRival t) (view m headF x) _ (false-of _ (λ u. of-false _ no (and-left _ _ u)));
+      }
+    where
+      no : eqb (view m headF x) q ≡ false
+      no = false-of _ (λ u. n (e ∙ eqb→eq _ _ u))
+
+  -- of a rival
+  module _ (l : t < tagCount) (i : x < fieldSize) (room : memorySize ≤ length m) (m' : List ℕ) (g : m' ≡ set m (fieldSize * rivalsBy t + x) (view m (rivalsBy t) x + 1)) where
+    pub rival-raised : Raised (rivalsBy t) x 1 m m'
+    rival-raised = raised-set m (rivalsBy t) x m' (omega arith) i room g
+
+    pub rival-asks : 2 ≤ t → NeverBothAt (view m) x → (x < fieldSize) × (2 ≤ t) × (t < tagCount) × (memorySize ≤ length m') × NeverBothAt (view m') x
+    rival-asks lo n = (
+      i,
+      lo,
+      l,
+      omega (arith, rival-raised .kept .size),
+      never-same (view m) (view m') x (rival-raised .words .field (has 2) x (λ f. omega arith)) (rival-raised .words .field (has 3) x (λ f. omega arith))
+          (rival-raised .words .field sizeF x (λ f. omega arith)) n,
+    )
+
+    pub notified : h ≡ q → (n : List ℕ) (b : Bool) → b ≡ justReachedByRival (view m') t x → Raised (byRival t) h (weigh b 1) m' n → Notified q x t m n
+    unfolding _and_
+    notified f n b k u =
+        record {
+          middle = m';
+          first = subst (λ z. Raised (rivalsBy t) x z m m') (sym (weigh-true _ 1 (of-true _ yes))) rival-raised;
+          second = subst (λ z. Raised (byRival t) z (weigh (eqb z q and justReachedByRival (view m') t x) 1) m' n) e
+              (subst (λ z. Raised (byRival t) h (weigh z 1) m' n) (k ∙ ap (_and justReachedByRival (view m') t x) (sym (true-of (eqb h q) (eq→eqb h q f)))) u);
+        }
+      where
+        yes : eqb (view m headF x) q ≡ true
+        yes = true-of _ (eq→eqb _ _ (sym e ∙ f))
 
 pub next-small : (x t h k : ℕ) (m m' : List ℕ) → t < tagCount → memorySize ≤ length m → h ≡ view m headF x → Raised (rivalsBy t) x k m m'
     → (view m (rivalsBy t) x < 65535) × (view m headF x < fieldSize) × (view m (byRival t) (view m headF x) < 65535)
@@ -362,7 +441,7 @@ count-small d s m m' f r h st k e lo hi l v =
     )
 
 -- the visits, of the values that the code has at hand: one antecedent more has its tag
-module _ (d : Theory) (m m1 : List ℕ) (t r : ℕ) (h : t < tagCount) (k : r < d .rules) (s : Invariant d m) (g : view m (has t) r < view m sizeF r) (i : Raised (has t) r 1 m m1) where
+module _ (d : Theory) (m m1 : List ℕ) (t r : ℕ) (h : t < tagCount) (k : r < d .rules) (s : Invariant d m) (g : Lacks (view m) t r) (i : Raised (has t) r 1 m m1) where
   just-reached-is : justReached (view m1) t r ≡ eqb (view m1 (has t) r) (threshold t (view m sizeF r))
   just-reached-is = ap (λ z. eqb (view m1 (has t) r) (threshold t z)) (i .words .field sizeF r (λ e. omega arith))
 
@@ -420,7 +499,7 @@ module _ (d : Theory) (m1 : List ℕ) (t r : ℕ) (lo : 2 ≤ t) (hi : t < tagCo
 
     both-is : (b : Bool) → b ≡ eqb (view m1 (has t) r) (threshold t (view m sizeF r)) and b
     unfolding _and_
-    both-is b = ap (_and b) (sym (true-of _ (c .just)) ∙ just-reached-is d m m1 t r hi k (c .invariant) (c .short) (c .raised))
+    both-is b = ap (_and b) (sym (true-of _ (c .just)) ∙ just-reached-is d m m1 t r hi k (c .invariant) (c .lacks) (c .raised))
 
     supports-is : ltb kind 2 ≡ canSupport (kindOf d r)
     supports-is = ap (λ q. ltb q 2) (e' ∙ c .raised .words .field kindF r (λ f. omega arith) ∙ c .invariant .index .kinds r k) ∙ support-number (kindOf d r)
@@ -442,15 +521,15 @@ module _ (d : Theory) (m1 : List ℕ) (t r : ℕ) (lo : 2 ≤ t) (hi : t < tagCo
     pub decide-walk : (u : ℕ) → t ≡ u → ltb kind 2 ≡ true → T (canSupport (kindOf d r)) × T (reached (view m3) u r) × Open d m3 (decidedFor (view m3)) (notifiedBelow d (view m3) u r 0)
     decide-walk u f j = (
       and-right _ _ (yes j),
-      subst (λ z. T (reached (view m3) z r)) f (own-reached d m m1 m2 m3 t r lo hi k (c .invariant) (c .short) (c .raised) free-raised own-raised (yes j)),
+      subst (λ z. T (reached (view m3) z r)) f (own-reached d m m1 m2 m3 t r lo hi k (c .invariant) (c .lacks) (c .raised) free-raised own-raised (yes j)),
       subst (λ z. Open d m3 (decidedFor (view m3)) (notifiedBelow d (view m3) z r 0)) f
-          (own-open d m m1 m2 m3 t r lo hi k (c .invariant) (c .short) (c .raised) free-raised own-raised (yes j)),
+          (own-open d m m1 m2 m3 t r lo hi k (c .invariant) (c .lacks) (c .raised) free-raised own-raised (yes j)),
     )
 
     pub decide-notified : (n : List ℕ) → ltb kind 2 ≡ true → Unchanged m3 n × Open d n (decidedFor (view n)) (notifies d (view n)) → Unchanged m1 n × Invariant d n
-    decide-notified n j o = own-notified d m m1 m2 m3 t r lo hi k (c .invariant) (c .short) (c .raised) free-raised own-raised (yes j) n (o .0) (o .1)
+    decide-notified n j o = own-notified d m m1 m2 m3 t r lo hi k (c .invariant) (c .lacks) (c .raised) free-raised own-raised (yes j) n (o .0) (o .1)
 
     pub decide-end : ltb kind 2 ≡ false → Unchanged m1 m3 × Invariant d m3
     decide-end j =
-        own-done d m m1 m2 m3 t r lo hi k (c .invariant) (c .short) (c .raised) free-raised own-raised
+        own-done d m m1 m2 m3 t r lo hi k (c .invariant) (c .lacks) (c .raised) free-raised own-raised
         (λ v. of-false _ j (subst T (sym (supports-is ∙ both-is _)) v))

@@ -15,7 +15,7 @@ use Rattle.logic.proofs.Pigeon.{count-le}
 use Rattle.logic.proofs.Literals.{complement-complement}
 use Rattle.memory.specs.Layout.{tagCount, fieldSize, memorySize}
 use Rattle.memory.specs.Fields.{has, sizeF, headF, rivalsF, firstF, beatenF, provedF, rivalsEnd, countsEnd, rivalsBase, rivalsBy, byRival}
-use Rattle.memory.specs.Memory.{view, rivalsOf, fires}
+use Rattle.memory.specs.Memory.{view, rivalsOf, fires, NeverBothAt}
 use Rattle.memory.specs.Visits.{WellFormed, Raised, reached, allowed, decidedFor, notifies, notifiedBelow, justReachedByRival, Open, Unchanged, Notified}
 use Rattle.memory.proofs.Views.{past-rule}
 use Rattle.memory.proofs.visit.Counts.{NotifiedTurns, Turns, counts-pair, decided-literal, decided-rule, notified-countered, notified-unopposed, reached-same}
@@ -144,7 +144,7 @@ module _ (d : Theory) (s : WellFormed d) (t r : ℕ) (m₀ m : List ℕ) (i : �
 
       first : Open d (g .middle) (decidedFor (view m)) (notifiedBelow d (view m) t r (i + 1))
       first =
-          open-raised d m (g .middle) _ _ _ _ (rivalsBy t) (d .pair i .weaker) _ (past-rule (rivalsBy t) (omega arith) (inl (omega arith))) (g .first) (w .tests)
+          open-raised d m (g .middle) _ _ _ _ (rivalsBy t) (d .pair i .weaker) _ (omega arith) (past-rule (rivalsBy t) (omega arith) (inl (omega arith))) (g .first) (w .tests)
           (counts-pair d (view m) (view (g .middle)) _ _ (w .tests .counts) (notifiedBelow d (view m) t r (i + 1)) (rivalsBy t) i _ (omega arith) (omega arith) h (g .first .words)
           (λ f k _ _ l o. to-same d (view m) t r i (i + 1) f k (λ u. (λ v. omega arith, λ v. ⊎-elim (λ a. absurd (o (eqb→eq _ _ (and-left _ _ u)) (omega arith))) (λ a. a) (at-most i k))))
           weights)
@@ -200,10 +200,10 @@ module _ (d : Theory) (s : WellFormed d) (t r : ℕ) (m₀ m : List ℕ) (i : �
 -- the turns, of the values that the code has at hand
 module _ (d : Theory) (s : WellFormed d) (t r : ℕ) (m₀ m : List ℕ) (i : ℕ) (w : Walking d t r m₀ m i) where
   pub turn-asks : (x : ℕ) → 2 ≤ t → t < tagCount → i < d .pairs → d .pair i .stronger ≡ r → x ≡ d .pair i .weaker
-      → ((x < fieldSize) × (2 ≤ t) × (t < tagCount) × (memorySize ≤ length m))
+      → ((x < fieldSize) × (2 ≤ t) × (t < tagCount) × (memorySize ≤ length m) × NeverBothAt (view m) x)
       × ((view m (rivalsBy t) x < 65535) × (view m headF x < fieldSize) × (view m (byRival t) (view m headF x) < 65535))
   turn-asks x lo hi h e f = (
-    (omega (arith, s .order .weak i h, s .order .small), lo, hi, w .tests .room),
+    (omega (arith, s .order .weak i h, s .order .small), lo, hi, w .tests .room, subst (NeverBothAt (view m)) (sym f) (w .tests .never (d .pair i .weaker) (s .order .weak i h))),
     subst (λ z. (view m (rivalsBy t) z < 65535) × (view m headF z < fieldSize) × (view m (byRival t) (view m headF z) < 65535)) (sym f) (walk-small d s t r m₀ m i w lo hi h e),
   )
 

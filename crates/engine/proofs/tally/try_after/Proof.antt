@@ -1,9 +1,17 @@
 -- `engine::tally::try_after` meets its contract. Assumes nothing.
 use native.Mathlib.Omega.{arith}
 use Rattle.engine.proofs.run.Opening.{logged-added, processed}
+use Rattle.engine.proofs.run.Trying.{next-coherent, proper-in}
 use borrow.Author.Needs.{needs}
 use Rattle.engine.proofs.tally.try_after.Statement.{statement}
 use Rattle.engine.proofs.tally.try_after.Tie as tie
+
+add-requires : tie.Need-add-requires
+add-requires c κs =
+    let start = c .before .before .before .before in let pre = start .pre in (
+      (pre .0 .0, pre .0 .1 .ready, pre .0 .2, pre .0 .3, pre .0 .4, next-coherent _ (proper-in _ _ (pre .0 .0)) _ _ _ _ (pre .0 .1) (pre .0 .3)),
+      pre .1,
+    )
 
 try-both-requires : tie.Need-try-both-requires
 try-both-requires c κs =
@@ -25,4 +33,4 @@ pub try-after-spec : {M : Type 1} → statement M
 try-after-spec =
     tie.close
     (tie.spec
-    (λ c κs. search needs) try-both-requires try-uses-requires (λ c. search needs) (λ c. search needs) returns)
+    add-requires try-both-requires try-uses-requires (λ c. search needs) (λ c. search needs) returns)

@@ -28,7 +28,7 @@ load-use-requires c κs = (omega (arith, (c .before .loop .inv .2)), (c .before 
 charge-requires : tie.Need-charge-requires Inv-loop μ-loop
 charge-requires c κs =
     let at-loop = c .before .before in let start = at-loop .before .before .before in let pre = start .pre in
-    (omega (arith, rule-used _ _ _ _ (pre .0) (pre .1) (pre .2) (pre .4) (at-loop .loop .k) (at-loop .loop .inv .0) (c .before .loop-test .taken)), (pre .1 .invariant .room))
+    (omega (arith, rule-used _ _ _ _ (pre .0) (pre .1) (pre .2) (pre .4) (at-loop .loop .k) (at-loop .loop .inv .0) (c .before .loop-test .taken)), (pre .1 .invariant .room), omega arith)
 
 loop-again : tie.Need-loop-again Inv-loop μ-loop
 loop-again c =
@@ -51,5 +51,5 @@ pub cost-spec : {M : Type 1} → statement M
 cost-spec =
     tie.close
     (tie.spec
-    Inv-loop μ-loop loop-holds load-use-requires (λ c. search needs) charge-requires (λ c. search needs) (λ c. search needs)
+    Inv-loop μ-loop (λ c. search needs) loop-holds load-use-requires (λ c. search needs) charge-requires (λ c. search needs) (λ c. search needs)
     (λ c. search needs) loop-again returns)

@@ -1,43 +1,66 @@
 -- `memory::prepare::start_rule` meets its contract. Assumes nothing.
 use native.Mathlib.Omega.{arith}
-use borrow.Author.Tests.{not-true, not-false}
-use Rattle.memory.proofs.visit.Accepted.{decide-asks, definite-asks, reaches-asks, visit-decided, visit-undecided}
+use mathlib.Core.Path.{refl}
+use Rattle.standing.proofs.Numbering.{found-firing, found-out, found-waiting}
+use Rattle.memory.specs.Memory.{view}
+use Rattle.memory.proofs.deciding.Deciding.{firing-words, not-firing-words, waiting-words}
+use Rattle.memory.proofs.visit.Accepted.{bump-asks, decide-asks, definite-asks, standing-asks, start-decided, start-undecided, visit-decided, visit-undecided}
 use Rattle.memory.proofs.index.Starting.{first-asks, second-asks, started-next}
 use borrow.Author.Needs.{needs}
 use Rattle.memory.proofs.prepare.start_rule.Statement.{statement}
 use Rattle.memory.proofs.prepare.start_rule.Tie as tie
 
 visit-definite-requires : tie.Need-visit-definite-requires
-visit-definite-requires c κs = definite-asks _ _ _ _ _ (first-asks _ _ _ (c .before .before .before .pre .0) (c .before .before .before .pre .1) (c .before .before .before .pre .2)) (omega arith)
+visit-definite-requires c κs =
+    let start = c .before .before .before in definite-asks _ _ _ _ _ (first-asks _ _ _ (start .pre .0) (start .pre .1) (start .pre .2)) (omega arith)
 
-reaches-requires : tie.Need-reaches-requires
-reaches-requires c κs =
+bump-requires : tie.Need-bump-requires
+bump-requires c κs =
     let at-visit-definite = c .before .before .before in let start = at-visit-definite .before .before .before .before in
-    reaches-asks _ _ _ _ _ (second-asks _ _ _ (start .pre .0) (start .pre .1) (start .pre .2) (at-visit-definite .visit-definite .ensures))
+    bump-asks _ _ _ _ _ (second-asks _ _ _ (start .pre .0) (start .pre .1) (start .pre .2) (at-visit-definite .visit-definite .ensures))
 
-returns : tie.Need-returns
-returns c =
-    let at-reaches = c .before .before .before in let at-visit-definite = at-reaches .before .before .before .before in
-    let start = at-visit-definite .before .before .before .before in let pre = start .pre in
-    started-next _ _ _ (pre .1) (at-visit-definite .visit-definite .ensures)
-    (visit-undecided _ _ _ _ _ (second-asks _ _ _ (pre .0) (pre .1) (pre .2) (at-visit-definite .visit-definite .ensures)) _ (at-reaches .reaches .ensures) (not-true _ (c .if1 .taken)))
+standing-requires : tie.Need-standing-requires
+standing-requires c κs =
+    let at-bump = c .before .before .before in let at-visit-definite = at-bump .before .before .before .before in
+    let start = at-visit-definite .before .before .before .before in
+    standing-asks _ _ _ _ _ (second-asks _ _ _ (start .pre .0) (start .pre .1) (start .pre .2) (at-visit-definite .visit-definite .ensures)) _ (at-bump .bump .ensures)
 
 decide-requires : tie.Need-decide-requires
 decide-requires c κs =
-    let at-reaches = c .before .before .before .before in let at-visit-definite = at-reaches .before .before .before .before in
-    let start = at-visit-definite .before .before .before .before in let pre = start .pre in
-    decide-asks _ _ _ _ _ (second-asks _ _ _ (pre .0) (pre .1) (pre .2) (at-visit-definite .visit-definite .ensures)) _ (at-reaches .reaches .ensures)
-    (not-false _ (c .before .if1 .left)) (omega arith)
+    let at-match = c .before .before in let at-standing = at-match .before in let at-bump = at-standing .before .before .before .before in
+    let at-visit-definite = at-bump .before .before .before .before in let start = at-visit-definite .before .before .before .before in
+    let asks = second-asks _ _ _ (start .pre .0) (start .pre .1) (start .pre .2) (at-visit-definite .visit-definite .ensures) in
+    decide-asks _ _ _ _ _ asks _ (at-bump .bump .ensures) 2 refl (omega arith)
+    (start-decided _ _ _ _ asks _ (at-bump .bump .ensures) (firing-words (view (at-bump .bump .last .0)) (start .args .r) (found-firing (at-standing .standing .result) (at-standing .standing .ensures) (at-match .match .keys1))))
+
+returns : tie.Need-returns
+returns c =
+    let at-decide = c .before .before in let at-bump = at-decide .before .before .before .before .before .before .before .before in
+    let at-visit-definite = at-bump .before .before .before .before in let start = at-visit-definite .before .before .before .before in let pre = start .pre in
+    started-next _ _ _ (pre .1) (at-visit-definite .visit-definite .ensures)
+    (visit-decided _ _ _ _ _ (second-asks _ _ _ (pre .0) (pre .1) (pre .2) (at-visit-definite .visit-definite .ensures)) _ (at-bump .bump .ensures) _ (at-decide .decide .ensures))
 
 returns-2 : tie.Need-returns-2
 returns-2 c =
-    let at-decide = c .before .before in let at-reaches = at-decide .before .before .before .before .before in
-    let at-visit-definite = at-reaches .before .before .before .before in let start = at-visit-definite .before .before .before .before in let pre = start .pre in
+    let at-match = c .before in let at-standing = at-match .before in let at-bump = at-standing .before .before .before .before in
+    let at-visit-definite = at-bump .before .before .before .before in let start = at-visit-definite .before .before .before .before in let pre = start .pre in
+    let asks = second-asks _ _ _ (pre .0) (pre .1) (pre .2) (at-visit-definite .visit-definite .ensures) in
     started-next _ _ _ (pre .1) (at-visit-definite .visit-definite .ensures)
-    (visit-decided _ _ _ _ _ (second-asks _ _ _ (pre .0) (pre .1) (pre .2) (at-visit-definite .visit-definite .ensures)) _ (at-reaches .reaches .ensures) _ (at-decide .decide .ensures))
+    (visit-undecided _ _ _ _ _ asks _ (at-bump .bump .ensures) (omega arith)
+    (start-undecided _ _ _ _ asks _ (at-bump .bump .ensures) (not-firing-words (view (at-bump .bump .last .0)) (start .args .r) (found-out (at-standing .standing .result) (at-standing .standing .ensures) (at-match .match .keys2)))))
+
+returns-3 : tie.Need-returns-3
+returns-3 c =
+    let at-match = c .before in let at-standing = at-match .before in let at-bump = at-standing .before .before .before .before in
+    let at-visit-definite = at-bump .before .before .before .before in let start = at-visit-definite .before .before .before .before in let pre = start .pre in
+    let asks = second-asks _ _ _ (pre .0) (pre .1) (pre .2) (at-visit-definite .visit-definite .ensures) in
+    started-next _ _ _ (pre .1) (at-visit-definite .visit-definite .ensures)
+    (visit-undecided _ _ _ _ _ asks _ (at-bump .bump .ensures) (omega arith)
+    (start-undecided _ _ _ _ asks _ (at-bump .bump .ensures) (waiting-words (view (at-bump .bump .last .0)) (start .args .r) (found-waiting (at-standing .standing .result) (at-standing .standing .ensures) (at-match .match .keys3)) .0)))
 
 pub start-rule-spec : {M : Type 1} → statement M
 start-rule-spec =
     tie.close
     (tie.spec
-    visit-definite-requires reaches-requires (λ c. search needs) returns decide-requires (λ c. search needs) returns-2)
+    visit-definite-requires bump-requires standing-requires (λ c. search needs) decide-requires (λ c. search needs) (λ c. search needs) (λ c. search needs)
+    returns (λ c. search needs) returns-2 (λ c. search needs) returns-3)

@@ -1,4 +1,5 @@
 -- `memory::visit::reaches` meets its contract. Assumes nothing.
+use native.Mathlib.Omega.{arith}
 use Rattle.memory.proofs.visit.Steps.{just-reached-read}
 use borrow.Author.Needs.{needs}
 use Rattle.memory.proofs.visit.reaches.Statement.{statement}
@@ -8,7 +9,7 @@ returns : tie.Need-returns
 returns c =
     let at-bump = c .before .before .before .before .before in let at-load = at-bump .before .before in let start = at-load .before .before .before in
     let pre = start .pre in let args = start .args in
-    just-reached-read (args .mem .now) (args .r) (args .t) _ (pre .0) (pre .1) (pre .2) (at-bump .bump .ensures) (at-load .load .ensures) (c .before .load2 .ensures)
+    just-reached-read (args .mem .now) (args .r) (args .t) _ (pre .0) (omega (arith, pre .1)) (pre .2) (at-bump .bump .ensures) (at-load .load .ensures) (c .before .load2 .ensures)
     (c .threshold .ensures)
 
 pub reaches-spec : {M : Type 1} → statement M

@@ -9,7 +9,7 @@ use Rattle.memory.proofs.visit.visit_definite.Statement.{statement}
 use Rattle.memory.proofs.visit.visit_definite.Tie as tie
 
 reaches-requires : tie.Need-reaches-requires
-reaches-requires c κs = ((c .before .before .before .pre .1 .0), omega (arith, (c .before .before .before .pre .0 .3)), (c .before .before .before .pre .1 .1), (c .before .before .before .pre .0 .4))
+reaches-requires c κs = ((c .before .before .before .pre .1 .0), c .before .before .before .pre .0 .3, (c .before .before .before .pre .1 .1), omega (arith, c .before .before .before .pre .0 .4))
 
 returns : tie.Need-returns
 unfolding theoryIn

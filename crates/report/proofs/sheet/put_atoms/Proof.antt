@@ -8,7 +8,8 @@ use Rattle.logic.specs.Reading.{taggedBy}
 use Rattle.logic.specs.Verdict.{verdict}
 use Rattle.report.specs.Text.{meant}
 use Rattle.report.specs.Sheet.{atomLine, atomLines}
-use Rattle.report.specs.Printing.{Put, marked}
+use Rattle.standing.specs.Marks.{marked}
+use Rattle.report.specs.Printing.{Put}
 use Rattle.report.proofs.Lengths.{line-room, lines-none, lines-next, lines-end}
 use borrow.Author.Needs.{needs}
 use Rattle.report.proofs.sheet.put_atoms.Statement.{statement}
@@ -28,7 +29,7 @@ loop-holds c =
 
 verdict-of-requires : tie.Need-verdict-of-requires Inv-loop μ-loop
 verdict-of-requires c κs =
-    let at-loop = c .before in let pre = at-loop .before .before .before .pre in (at-loop .loop .inv .1, omega arith, pre .3)
+    c .before .loop .inv .1
 
 put-atom-requires : tie.Need-put-atom-requires Inv-loop μ-loop
 put-atom-requires c κs =

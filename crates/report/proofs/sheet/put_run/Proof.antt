@@ -1,50 +1,53 @@
 -- `report::sheet::put_run` meets its contract. Assumes nothing.
-use Prim.Native.Nat.{ℕ}
 use native.Mathlib.Omega.{arith}
-use mathlib.Core.Path.{_∙_}
-use lib.ListN.{length-replicate}
+use mathlib.Core.Path.{_∙_, sym}
+use lib.Seq.{length-take-le}
 use Rattle.logic.specs.Reading.{taggedBy}
 use Rattle.logic.specs.Verdict.{verdict}
-use Rattle.report.specs.Printing.{marked}
+use Rattle.standing.specs.Marks.{marked}
 use Rattle.report.proofs.Lengths.{count-length, spent-length, lines-room, put-run-parts}
 use borrow.Author.Needs.{needs}
 use Rattle.report.proofs.sheet.put_run.Statement.{statement}
 use Rattle.report.proofs.sheet.put_run.Tie as tie
 
+-- the lines are there
+slice-aggregate-marks-of : tie.Need-slice-aggregate-marks-of
+slice-aggregate-marks-of c =
+    let start = c .before .before .before .before in let l = start .pre .0 .lines in
+    let e = sym (length-take-le (start .args .c .lines) (start .args .log .now) l) in search needs
+
 put-count-requires : tie.Need-put-count-requires
 put-count-requires c κs =
-    let start = c .before .before .before .before .before .before .before in let pre = start .pre in
+    let start = c .before .before .before .before .before .before in let pre = start .pre in
     omega (arith, count-length (start .args .atoms) (pre .0 .atoms), (pre .1))
 
 put-atoms-requires : tie.Need-put-atoms-requires
 put-atoms-requires c κs =
-    let at-put-count = c .before .before .before .before in let at-mark-lines = at-put-count .before .before .before in
-    let start = at-mark-lines .before .before .before .before .before in let pre = start .pre in (
+    let at-put-count = c .before .before .before .before in let start = at-put-count .before .before .before .before .before .before .before in let pre = start .pre in (
       omega (arith, count-length (start .args .atoms) (pre .0 .atoms), (at-put-count .put-count .ensures .end)),
       (pre .0 .atoms),
       (at-put-count .put-count .kept .0) ∙ (pre .1),
-      (at-mark-lines .mark-lines .kept .1 .1 .0) ∙ length-replicate {A = ℕ} 4096 0,
     )
 
 put-spent-requires : tie.Need-put-spent-requires
 put-spent-requires c κs =
     let at-put-atoms = c .before .before .before in let at-put-count = at-put-atoms .before .before .before .before .before in
-    let at-mark-lines = at-put-count .before .before .before in let start = at-mark-lines .before .before .before .before .before in let pre = start .pre in
+    let at-marks-of = at-put-count .before .before in let start = at-marks-of .before .before .before .before .before in let pre = start .pre in
     let args = start .args in
     omega
-    (arith, spent-length (args .c .spent) (args .most) (pre .0 .spent) (pre .0 .most), lines-room (verdict (taggedBy 4 (marked (at-mark-lines .mark-lines .last .1 .1 .0)))) (args .atoms) (at-put-count .put-count .result) (omega (arith, count-length (args .atoms) (pre .0 .atoms), (at-put-count .put-count .ensures .end))) (pre .0 .atoms), (at-put-atoms .put-atoms .ensures .end), (at-put-atoms .put-atoms .kept .0), (at-put-count .put-count .kept .0), (pre .1))
+    (arith, spent-length (args .c .spent) (args .most) (pre .0 .spent) (pre .0 .most), lines-room (verdict (taggedBy 4 (marked (at-marks-of .marks-of .result)))) (args .atoms) (at-put-count .put-count .result) (omega (arith, count-length (args .atoms) (pre .0 .atoms), (at-put-count .put-count .ensures .end))) (pre .0 .atoms), (at-put-atoms .put-atoms .ensures .end), (at-put-atoms .put-atoms .kept .0), (at-put-count .put-count .kept .0), (pre .1))
 
 returns : tie.Need-returns
 returns c =
     let at-put-spent = c .before .before in let at-put-atoms = at-put-spent .before .before .before .before in
-    let at-put-count = at-put-atoms .before .before .before .before .before in let at-mark-lines = at-put-count .before .before .before in
-    let start = at-mark-lines .before .before .before .before .before in let pre = start .pre in let args = start .args in
-    put-run-parts (at-mark-lines .mark-lines .last .1 .1 .0) (args .log .now) (args .atoms) (args .c .lines) (args .c .spent) (args .most) (pre .0 .atoms) (pre .0 .spent)
-    (pre .0 .most) (pre .1) (at-mark-lines .mark-lines .ensures) (at-put-count .put-count .ensures) (at-put-atoms .put-atoms .ensures) (at-put-spent .put-spent .ensures)
+    let at-put-count = at-put-atoms .before .before .before .before .before in let at-marks-of = at-put-count .before .before in
+    let start = at-marks-of .before .before .before .before .before in let pre = start .pre in let args = start .args in
+    put-run-parts (at-marks-of .marks-of .result) (args .log .now) (args .atoms) (args .c .lines) (args .c .spent) (args .most) (pre .0 .atoms) (pre .0 .spent)
+    (pre .0 .most) (pre .1) (at-marks-of .marks-of .ensures) (at-put-count .put-count .ensures) (at-put-atoms .put-atoms .ensures) (at-put-spent .put-spent .ensures)
 
 pub put-run-spec : {M : Type 1} → statement M
 put-run-spec =
     tie.close
     (tie.spec
-    (λ c. search needs) (λ c. search needs) (λ c κs. search needs) put-count-requires (λ c. search needs) put-atoms-requires
+    (λ c. search needs) slice-aggregate-marks-of (λ c κs. search needs) put-count-requires (λ c. search needs) put-atoms-requires
     put-spent-requires (λ c. search needs) returns)

@@ -1,8 +1,8 @@
 -- `report::verdict::verdict_of` meets its contract. Assumes nothing.
 use mathlib.Core.Path.{_∙_, sym}
 use Rattle.logic.specs.Reading.{taggedBy}
-use Rattle.report.specs.Printing.{marked}
-use Rattle.report.proofs.Marking.{verdict-by}
+use Rattle.standing.specs.Marks.{marked}
+use Rattle.report.proofs.Verdicts.{verdict-by}
 use borrow.Author.Needs.{needs}
 use Rattle.report.proofs.verdict.verdict_of.Statement.{statement}
 use Rattle.report.proofs.verdict.verdict_of.Tie as tie
@@ -13,7 +13,7 @@ returns c =
     let at-has-line4 = at-both .before in let at-has-line3 = at-has-line4 .before in let at-has-line2 = at-has-line3 .before in let at-has-line = at-has-line2 .before in
     let at-complement = at-has-line .before in let start = at-complement .before .before in let args = start .args in
     c .first-fit .ensures ∙ sym
-    (verdict-by (taggedBy 4 (marked (args .marks .now))) (args .q .0) _ (start .pre .0) (at-complement .complement .ensures) (sym (at-has-line .has-line .ensures))
+    (verdict-by (taggedBy 4 (marked (args .marks .now))) (args .q .0) _ (start .pre) (at-complement .complement .ensures) (sym (at-has-line .has-line .ensures))
     (sym (at-has-line2 .has-line2 .ensures)) (sym (at-has-line3 .has-line3 .ensures)) (sym (at-has-line4 .has-line4 .ensures))
     (at-both .both .ensures) (at-both2 .both2 .ensures))
 

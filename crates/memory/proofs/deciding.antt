@@ -1,0 +1,2 @@
+-- Laws of how a rule stands.
+pub mod Deciding

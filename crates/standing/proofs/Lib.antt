@@ -1,0 +1,4 @@
+pub mod Numbering
+pub mod Marking
+pub mod Bodies
+pub mod Answering

@@ -1,0 +1,57 @@
+-- Document 02, S-3: what a call answers that asks how a rule stands over the lines of a log.
+use Prim.Native.Nat.{ℕ}
+use mathlib.Core.Bool.{cond}
+use mathlib.Core.List.{List}
+use lib.Dec.{ltb}
+use Rattle.logic.specs.System.{held}
+use Rattle.logic.specs.Reading.{taggedBy}
+use Rattle.logic.specs.Inference.{+∂, −∂}
+use Rattle.logic.specs.Tests.{everyOf, someOf}
+use Rattle.logic.specs.Standing as logic
+use Rattle.logic.specs.Standing.{firing, out, waiting, firstFit, standing, standingNumber}
+use Rattle.table.specs.declared.format.Sizes.{Sizes}
+use Rattle.table.specs.declared.judge.Refusal.the-variants.{OutOfRange}
+use Rattle.table.specs.declared.judge.Judgement.{Judgement}
+use Rattle.table.specs.declared.judge.Judgement.the-variants as judgement
+use Rattle.table.specs.Format.{bodyIn, theoryOf}
+use Rattle.table.specs.Refusals.{numberOf, judgementOf}
+use Rattle.standing.specs.declared.answer.Standing.{Standing}
+use Rattle.standing.specs.declared.answer.Standing.the-variants.{Firing, Out, Waiting}
+use Rattle.standing.specs.declared.answer.StandingNumbers.{StandingNumbers}
+use Rattle.standing.specs.declared.answer.StandingAnswer.{StandingAnswer}
+use Rattle.standing.specs.declared.answer.StandingAnswer.the-variants.{Refused, Stands}
+use Rattle.standing.specs.Marks.{marked}
+
+-- the standing that each case of the enum means
+unfoldable pub meant : Standing → logic.Standing
+meant Firing = firing
+meant Out = out
+meant Waiting = waiting
+
+-- The numbers of each answer: the number of a refusal, alone; or 0, and the number of the standing.
+abbrev pub refusalNumbers : ℕ → StandingNumbers
+refusalNumbers n = record { refused = n; standing = 0 }
+
+abbrev pub standingNumbers : logic.Standing → StandingNumbers
+standingNumbers x = record { refused = 0; standing = standingNumber x }
+
+unfoldable pub numbersOf : StandingAnswer → StandingNumbers
+numbersOf (Refused n) = refusalNumbers (numberOf n)
+numbersOf (Stands x) = standingNumbers (meant x)
+
+-- how a rule stands by ∂ over the lines of a log; a word that is no line of the table has no part in it
+abbrev pub standingIn : List ℕ → ℕ → List ℕ → logic.Standing
+standingIn b r log = standing (theoryOf b) 1 (taggedBy 4 (held log)) r
+
+-- a refusal 1 to 7 of the table; 5, "a rule number not below N", of the rule; or how it stands
+unfoldable pub answerWith : Judgement → List ℕ → ℕ → List ℕ → StandingNumbers
+answerWith (judgement.Accepted s) b r log = cond (ltb r (s .rules)) (standingNumbers (standingIn b r log)) (refusalNumbers (numberOf OutOfRange))
+answerWith (judgement.Refused n) b r log = refusalNumbers (numberOf n)
+
+abbrev pub standingOf : List ℕ → ℕ → List ℕ → StandingNumbers
+standingOf b r log = answerWith (judgementOf b) b r log
+
+-- the standing by the marks of a log
+unfoldable pub standingBy : List ℕ → Sizes → ℕ → List ℕ → logic.Standing
+standingBy b s r marks =
+    firstFit (everyOf (bodyIn b s r) (λ a. taggedBy 4 (marked marks) a +∂)) (someOf (bodyIn b s r) (λ a. taggedBy 4 (marked marks) a −∂))

@@ -1,0 +1,42 @@
+// The lines of a log as marks. No table has a line at or above 4,096, which is 8 for each of 512 atoms.
+ghost use Prim.Native.Nat.{_+_, _*_};
+ghost use mathlib.Core.Path.{_≡_};
+ghost use lib.ListN.{length};
+ghost use Rattle.standing.specs.Marks.{marked, Marked, MarkedToo};
+use table::format::Literal;
+
+// 1 at a line, if a table may have it.
+fn mark(marks: &mut [u8], x: u16)
+    requires { ⌜ length (now marks) ≡ 4096 ⌝ }
+    ensures { λ _. ⌜ MarkedToo x (now (marks .entry)) (now (marks .exit)) ⌝ }
+{
+    let i = x as usize;
+    if i < 4096 {
+        marks[i] = 1;
+    }
+}
+
+// The marks of a log. Words that no table has as a line are passed over.
+pub fn marks_of(log: &[u16]) -> [u8; 4096]
+    ensures { λ r. ⌜ Marked (now (log .entry)) r ⌝ }
+{
+    let mut marks = [0u8; 4096];
+    let mut i: usize = 0;
+    while i < log.len() {
+        mark(&mut marks, log[i]);
+        i += 1;
+    }
+    marks
+}
+
+// Whether a literal has a tag among the lines that are marked.
+pub fn has_line(marks: &[u8], q: Literal, tag: u16) -> bool
+    ensures { λ r. ⌜ r ≡ marked (now (marks .entry)) (4 * q .0 + tag) ⌝ }
+{
+    let x = 4 * (q.0 as usize) + tag as usize;
+    if x < marks.len() {
+        marks[x] == 1
+    } else {
+        false
+    }
+}
