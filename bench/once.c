@@ -1,7 +1,8 @@
 /* once FUNCTION [WHAT [WORDS]]: one call on the table on standard input, for count.sh to count. fly_sheet prints the sheet; an engine
  * (fly_run, c_run, flags_run) takes a budget as WHAT, and its answer and log are printed, a number on each line. WORDS of log are lent, or
  * enough for every table. WHAT may be `judge`: then no scratch is lent, and an accepted table is refused by 8 once it is judged, and none
- * is cleared. Any other refusal is an error. */
+ * is cleared. Any other refusal is an error. fly_stands takes a rule number as WHAT, and its answer is printed. Its log is made before the
+ * call: the lines of a run to its finish, or WORDS words, these lines over and over; none, if the run writes none. */
 #include "c_engine.h"
 #include "c_flags.h"
 
@@ -17,6 +18,15 @@ static engine *named(const char *name)
     return strcmp(name, "fly_run") == 0 ? fly_run : strcmp(name, "c_run") == 0 ? c_run : strcmp(name, "flags_run") == 0 ? flags_run : NULL;
 }
 
+/* A log of so many words: these lines over and over. */
+static uint16_t *repeated(const uint16_t *lines, size_t n, size_t words)
+{
+    uint16_t *log = calloc(words == 0 ? 1 : words, sizeof *log); /* no words are at an address too */
+    for (size_t i = 0; log != NULL && i < words; i++)
+        log[i] = lines[i % n];
+    return log;
+}
+
 int main(int argc, char **argv)
 {
     /* Aligned, so that the call's place on the stack does not hang on the environment's length: memset's count does on its address. */
@@ -28,10 +38,22 @@ int main(int argc, char **argv)
         fwrite(sheet, 1, fly_sheet(table, len, sheet), stdout);
         return 0;
     }
+    if ((argc == 3 || argc == 4) && strcmp(argv[1], "fly_stands") == 0) {
+        size_t lines = fly_run(table, len, FLY_MAX_SPENT, log, FLY_LOG, scratch, FLY_SCRATCH).lines;
+        size_t words = argc == 4 && lines != 0 ? strtoul(argv[3], NULL, 10) : lines;
+        uint16_t *lent = repeated(log, lines, words);
+        if (lent == NULL)
+            return fprintf(stderr, "once: no memory for %zu words\n", words), 1;
+        fly_standing got = fly_stands(table, len, (uint32_t)strtoul(argv[2], NULL, 10), lent, words);
+        printf("refused %u standing %u\n", (unsigned)got.refused, (unsigned)got.standing);
+        free(lent);
+        return 0;
+    }
     engine *run = argc == 3 || argc == 4 ? named(argv[1]) : NULL;
     size_t words = argc == 4 ? strtoul(argv[3], NULL, 10) : FLY_LOG;
     if (run == NULL || words > FLY_LOG)
-        return fprintf(stderr, "usage: once fly_sheet | once fly_run|c_run|flags_run BUDGET|judge [WORDS, at most %d]\n", FLY_LOG), 2;
+        return fprintf(stderr, "usage: once fly_sheet | once fly_stands RULE [WORDS] | once fly_run|c_run|flags_run BUDGET|judge "
+                               "[WORDS, at most %d]\n", FLY_LOG), 2;
     int judging = strcmp(argv[2], "judge") == 0;
     fly_answer got = run(table, len, (uint32_t)strtoul(argv[2], NULL, 10), log, words, scratch, judging ? 0 : FLY_SCRATCH);
     if (got.refused != (judging ? 8 : 0))

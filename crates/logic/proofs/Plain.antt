@@ -206,7 +206,7 @@ module _ (d : Theory) (p : T (proper d)) where
   plain-weighed = reading-weighed plain plain-rules d plain-lawful (bound d) (omega arith)
 
   -- conclusions are below 8A
-  pub conclusions-below : (l : List ℕ) → T (derivation (plainSystem d) l) → (x : ℕ) → T (member x l) → x < 2 * (4 * d .atoms)
+  conclusions-below : (l : List ℕ) → T (derivation (plainSystem d) l) → (x : ℕ) → T (member x l) → x < 2 * (4 * d .atoms)
   unfolding systemOf
   conclusions-below l t x m = let b : x < 4 * (2 * d .atoms) = derives-all-below (plainSystem d) [] l t x m in omega arith
 

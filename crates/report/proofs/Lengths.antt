@@ -14,6 +14,7 @@ use Rattle.logic.proofs.Tests.{at-most}
 use Rattle.report.specs.Text.{decimal, wordOf, atomsWord, spentWord, ofWord, refusedWord, space, newline}
 use Rattle.report.specs.Sheet.{atomLine, atomLines, countLine, spentLine, runSheet, refusedSheet, verdictIn}
 use Rattle.standing.specs.Marks.{marked, Marked}
+use Rattle.standing.proofs.Marking.{marked-held}
 use Rattle.report.specs.Printing.{Put}
 use Rattle.report.proofs.Decimal.{length-1, length-2, length-3, length-5}
 use Rattle.report.proofs.Puts.{room-left, put-nothing, put-put}
@@ -124,4 +125,4 @@ put-run-parts marks log atoms lines spent most {out} {out₁} {out₂} {out₃} 
 
     same : atomLines (verdict (taggedBy 4 (marked marks))) atoms ≡ atomLines (verdictIn (take lines log)) atoms
     same = atoms-same (verdict (taggedBy 4 (marked marks))) (verdictIn (take lines log)) atoms
-        (λ n h. verdict-same (marked marks) (held (take lines log)) n (λ x k. m x (omega arith)))
+        (λ n h. verdict-same (marked marks) (held (take lines log)) n (λ x k. marked-held (take lines log) marks m x (omega arith)))

@@ -1,21 +1,19 @@
 -- From the engine's answer on buffers that are long enough to the sheet. Assumes nothing.
-use Prim.Native.Nat.{ℕ, suc, _+_, _-_, _*_, _≤_, _<_}
+use Prim.Native.Nat.{ℕ, _+_, _-_, _*_, _≤_, _<_}
 use native.Mathlib.Nat.{le-refl}
 use native.Mathlib.Omega.{arith}
 use mathlib.Core.Path.{_≡_, refl, sym, _∙_, ap, ap₂, subst}
 use mathlib.Core.Bool.{cond}
 use mathlib.Core.List.{List, _++_}
 use lib.Dec.{T}
-use lib.ListN.{length, take, drop, getD, replicate, length-append, length-replicate, take-append-drop, List·getD-append}
-use lib.Seq.{take-at, take-suc, length-take-le}
-use Rattle.logic.specs.Tests.{member}
+use lib.ListN.{length, take, drop, replicate, length-append, length-replicate}
+use lib.Seq.{take-at, length-take-le}
 use Rattle.logic.specs.Theory.{entries, size}
 use Rattle.logic.specs.Worklist.{logOf, lines, run}
 use Rattle.logic.specs.Plain.{plainSystem, bound}
 use Rattle.logic.specs.Demands.{Demands}
 use Rattle.logic.proofs.Tests.{cond-cases}
-use Rattle.logic.proofs.Lists.{member-left, member-last}
-use Rattle.logic.proofs.Plain.{plain-demands, plain-finishes, conclusions-below}
+use Rattle.logic.proofs.Plain.{plain-demands, plain-finishes}
 use Rattle.table.specs.declared.format.Sizes.{Sizes}
 use Rattle.table.specs.declared.judge.Refusal.{Refusal}
 use Rattle.table.specs.declared.judge.Judgement.{Judgement}

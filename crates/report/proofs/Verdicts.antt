@@ -3,7 +3,6 @@ use Prim.Native.Nat.{ℕ, _+_, _*_, _<_}
 use native.Mathlib.Omega.{arith}
 use mathlib.Core.Path.{_≡_, refl, sym, _∙_, ap, ap₂}
 use mathlib.Core.Bool.{Bool}
-use lib.Dec.{T}
 use Rattle.logic.specs.Tests.{_and_}
 use Rattle.logic.specs.Reading.{taggedBy}
 use Rattle.logic.specs.Theory.{atom, complement}

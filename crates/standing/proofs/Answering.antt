@@ -1,8 +1,7 @@
 -- The standing by the marks of a log is the one by its lines, and the numbers of each answer. Assumes nothing.
 use Prim.Native.Nat.{ℕ, _+_, _*_, _≤_, _<_}
 use native.Mathlib.Omega.{arith}
-use mathlib.Core.Path.{_≡_, refl, sym, _∙_, ap, ap₂, subst}
-use mathlib.Core.Bool.{Bool}
+use mathlib.Core.Path.{_≡_, sym, _∙_, ap, ap₂}
 use mathlib.Core.List.{List}
 use lib.Dec.{T, ltb, ltb→lt, lt→ltb}
 use Rattle.logic.specs.Tests.{member}
@@ -20,13 +19,14 @@ use Rattle.table.specs.declared.judge.Refusal.the-variants.{OutOfRange}
 use Rattle.table.specs.declared.judge.Judgement.{Judgement}
 use Rattle.table.specs.declared.judge.Judgement.the-variants as judgement
 use Rattle.table.specs.Format.{theoryIn}
-use Rattle.table.specs.Refusals.{numberOf, judgementOf}
+use Rattle.table.specs.Refusals.{judgementOf}
 use Rattle.table.proofs.Legal.{body-entry, legal, limited, literal-below, ranged}
 use Rattle.standing.specs.declared.answer.Standing.{Standing}
 use Rattle.standing.specs.declared.answer.StandingAnswer.{StandingAnswer}
 use Rattle.standing.specs.declared.answer.StandingAnswer.the-variants.{Refused, Stands}
 use Rattle.standing.specs.Marks.{marked, Marked}
-use Rattle.standing.specs.Answers.{meant, numbersOf, standingNumbers, refusalNumbers, standingIn, answerWith, standingOf, standingBy}
+use Rattle.standing.proofs.Marking.{marked-held}
+use Rattle.standing.specs.Answers.{meant, numbersOf, standingNumbers, standingIn, answerWith, standingOf, standingBy}
 
 module _ (b : List ℕ) (s : Sizes) (e : judgementOf b ≡ judgement.Accepted s) (r : ℕ) where
   -- an antecedent's lines are below 4,096
@@ -44,7 +44,7 @@ module _ (b : List ℕ) (s : Sizes) (e : judgementOf b ≡ judgement.Accepted s)
       ∙ ap (λ z. logic.standing (theoryIn b z) 1 (taggedBy 4 (held log)) r) (sym (legal b s e .read))
     where
       line : (a t : ℕ) → T (member a (bodyOf (theoryIn b s) r)) → t < 4 → marked marks (4 * a + t) ≡ held log (4 * a + t)
-      line a t m h = f (4 * a + t) (omega (arith, antecedent-small a m))
+      line a t m h = marked-held log marks f (4 * a + t) (omega (arith, antecedent-small a m))
 
   -- an accepted table
   pub rule-stands : (log : List ℕ) (x : Standing) → r < s .rules → meant x ≡ standingIn b r log → numbersOf (Stands x) ≡ answerWith (judgement.Accepted s) b r log

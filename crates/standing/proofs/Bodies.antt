@@ -5,7 +5,7 @@ use mathlib.Core.Path.{_≡_, sym, _∙_, ap, ap₂, subst}
 use mathlib.Core.Bool.{Bool, not}
 use mathlib.Core.List.{List, map}
 use lib.Dec.{T, eqb}
-use Rattle.logic.specs.Tests.{_and_, _or_, isnt, some, everyOf, someOf, member, upto, pick}
+use Rattle.logic.specs.Tests.{_and_, _or_, isnt, some, everyOf, someOf, upto, pick}
 use Rattle.logic.proofs.Tests.{and-intro, and-left, and-right, everyOf-elim, everyOf-intro, isnt-elim, isnt-intro, not-isnt, some-elim, some-intro, someOf-elim, someOf-intro, test-cases, test-eq}
 use mathlib.Core.Logic.{⊎-elim}
 use Rattle.logic.proofs.Lists.{member-map, member-map-intro, member-pick, member-pick-intro, member-upto, member-upto-intro}

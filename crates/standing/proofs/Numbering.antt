@@ -18,7 +18,7 @@ use Rattle.standing.specs.declared.answer.Standing.the-variants.{Firing,
 use Rattle.standing.specs.declared.answer.StandingNumbers.{StandingNumbers}
 use Rattle.standing.specs.declared.answer.StandingAnswer.{StandingAnswer}
 use Rattle.standing.specs.declared.answer.StandingAnswer.the-variants.{Refused, Stands}
-use Rattle.standing.specs.Answers.{meant, refusalNumbers, standingNumbers, numbersOf}
+use Rattle.standing.specs.Answers.{meant, refusalNumbers, numbersOf}
 use Rattle.standing.proofs.answer.Standing.{the-type}
 
 -- by the tag that a match looks at

@@ -17,7 +17,7 @@ use Rattle.logic.specs.System.{System, held, Coherent, derivation}
 use Rattle.logic.specs.Worklist.{put, grow}
 use Rattle.logic.specs.Reading.{taggedBy, systemOf, withTags, conclusion}
 use Rattle.logic.specs.Plain.{plainSystem}
-use Rattle.logic.proofs.Tests.{and-intro, and-left, and-right, false-of, isnt-elim, isnt-intro, of-false, of-true, or-elim, or-left, or-right, test-cases, test-eq}
+use Rattle.logic.proofs.Tests.{and-intro, and-left, and-right, false-of, isnt-elim, isnt-intro, of-false, of-true, or-elim, or-left, or-right, test-cases}
 use Rattle.logic.proofs.Lists.{distinct-snoc, member-last, member-left, member-more}
 use Rattle.logic.proofs.Literals.{join-div, join-mod}
 use Rattle.logic.proofs.Derivations.{derivation-snoc, derives-all-below, monotone}

@@ -1,5 +1,6 @@
 -- The tests of the words (specs/Deciding.antt) are the inference rules over what is processed. Assumes nothing.
 use Prim.Native.Nat.{ℕ, suc, _+_, _*_, _≤_, _<_}
+use native.Mathlib.Nat.{add-zero}
 use native.Mathlib.Omega.{arith}
 use mathlib.Core.Path.{_≡_, refl, sym, _∙_, ap, ap₂, subst}
 use mathlib.Core.Logic.{⊎-elim}
@@ -12,6 +13,7 @@ use Rattle.logic.specs.Theory.{Theory, complement, headOf, bodyOf, isFact, stri
 use Rattle.logic.specs.Inference as inference
 use Rattle.logic.specs.Inference.{allHave, oneHas}
 use Rattle.logic.specs.Reading.{taggedBy}
+use Rattle.logic.specs.Standing.{firstFit, standing}
 use Rattle.logic.proofs.Tests.{and-intro, and-left, and-right, and-true, and-under, eq→eqb, every-elim, every-intro, false-of, implies-elim, implies-intro, isnt-elim, isnt-intro, or-elim, or-left, or-right, some-elim, some-intro, test-cases, test-eq, true-of}
 use Rattle.logic.proofs.Literals.{complement-below, complement-complement, join-div, join-mod}
 use Rattle.table.specs.declared.format.Sizes.{Sizes}
@@ -20,9 +22,9 @@ use Rattle.table.specs.Format.{theoryIn}
 use Rattle.table.specs.Refusals.{judgementOf}
 use Rattle.table.proofs.Legal.{legal, limited, ranged, stronger-below}
 use Rattle.memory.specs.Layout.{tagCount, fieldSize}
-use Rattle.memory.specs.Fields.{rivalsF, beatenF, lostF, strictF, supportF, headedF, factF, provedF, refutedF, firingF, outF, counteredF, unopposedF}
+use Rattle.memory.specs.Fields.{has, sizeF, rivalsF, beatenF, lostF, strictF, supportF, headedF, factF, provedF, refutedF, firingF, outF, counteredF, unopposedF}
 use Rattle.memory.specs.Memory.{view, heldOf, fires, isOut, antecedents, virtual, Ready}
-use Rattle.memory.specs.Deciding.{processed, definitelyBy, notDefinitelyBy, defeasiblyBy, notDefeasiblyBy}
+use Rattle.memory.specs.Deciding.{processed, definitelyBy, notDefinitelyBy, defeasiblyBy, notDefeasiblyBy, standingWith}
 use Rattle.memory.proofs.inference.Counting.{count-every, count-ext, count-some, pick-all, pick-one}
 
 -- what is left of a test once its first part is known
@@ -101,6 +103,11 @@ module _ (d : Theory) (m : List ℕ) (ready : Ready d m) where
   pub out-defeasibly : (r : ℕ) → r < d .rules → isOut (view m) 3 r ≡ oneHas d h 3 r
   unfolding virtual
   out-defeasibly r l = out-one 3 r (omega arith) refl l
+
+  -- so the memory gives the standing of document 02, S-3, over what is processed
+  pub standing-processed : (r : ℕ) → r < d .rules → standingWith (view m) 0 0 r ≡ standing d 1 h r
+  standing-processed r l =
+      ap₂ firstFit (ap (λ n. eqb n (view m sizeF r)) (add-zero (view m (has 2) r)) ∙ fires-defeasibly r l) (ap (ltb 0) (add-zero (view m (has 3) r)) ∙ out-defeasibly r l)
 
   module _ (q : ℕ) (b : q < 2 * d .atoms) where
     pub definitely-by : definitelyBy (view m) q ≡ inference.definitely d h q

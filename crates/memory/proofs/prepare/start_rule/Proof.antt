@@ -1,14 +1,28 @@
 -- `memory::prepare::start_rule` meets its contract. Assumes nothing.
+use Prim.Native.Nat.{ℕ, _+_}
 use native.Mathlib.Omega.{arith}
-use mathlib.Core.Path.{refl}
+use mathlib.Core.Path.{_≡_, refl}
+use Rattle.table.specs.Format.{theoryIn}
 use Rattle.standing.proofs.Numbering.{found-firing, found-out, found-waiting}
+use Rattle.memory.specs.Fields.{has, sizeF}
 use Rattle.memory.specs.Memory.{view}
+use Rattle.memory.specs.Indexing.{Started}
 use Rattle.memory.proofs.deciding.Deciding.{firing-words, not-firing-words, waiting-words}
 use Rattle.memory.proofs.visit.Accepted.{bump-asks, decide-asks, definite-asks, standing-asks, start-decided, start-undecided, visit-decided, visit-undecided}
 use Rattle.memory.proofs.index.Starting.{first-asks, second-asks, started-next}
 use borrow.Author.Needs.{needs}
 use Rattle.memory.proofs.prepare.start_rule.Statement.{statement}
 use Rattle.memory.proofs.prepare.start_rule.Tie as tie
+
+-- the call, its rule, and the words of the memory once the rule is visited
+abbrev start : tie.After-standing → tie.Start
+start c = c .before .before .before .before .before .before .before .before .before .before .before .before
+
+abbrev rule : tie.After-standing → ℕ
+rule c = start c .args .r
+
+abbrev words : tie.After-standing → ℕ → ℕ → ℕ
+words c = view (c .before .before .before .before .bump .last .0)
 
 visit-definite-requires : tie.Need-visit-definite-requires
 visit-definite-requires c κs =
@@ -40,23 +54,21 @@ returns c =
     started-next _ _ _ (pre .1) (at-visit-definite .visit-definite .ensures)
     (visit-decided _ _ _ _ _ (second-asks _ _ _ (pre .0) (pre .1) (pre .2) (at-visit-definite .visit-definite .ensures)) _ (at-bump .bump .ensures) _ (at-decide .decide .ensures))
 
-returns-2 : tie.Need-returns-2
-returns-2 c =
-    let at-match = c .before in let at-standing = at-match .before in let at-bump = at-standing .before .before .before .before in
-    let at-visit-definite = at-bump .before .before .before .before in let start = at-visit-definite .before .before .before .before in let pre = start .pre in
+-- a rule that does not fire once it is visited is not decided by it
+undecided : (c : tie.After-standing) → (words c (has 2) (rule c) ≡ words c sizeF (rule c) → ⊥)
+    → Started (theoryIn (start c .args .table .now) (start c .args .s)) (rule c + 1) (start c .args .mem .now) (c .before .before .before .before .bump .last .0)
+undecided c n =
+    let at-bump = c .before .before .before .before in let at-visit-definite = at-bump .before .before .before .before in
+    let pre = at-visit-definite .before .before .before .before .pre in
     let asks = second-asks _ _ _ (pre .0) (pre .1) (pre .2) (at-visit-definite .visit-definite .ensures) in
     started-next _ _ _ (pre .1) (at-visit-definite .visit-definite .ensures)
-    (visit-undecided _ _ _ _ _ asks _ (at-bump .bump .ensures) (omega arith)
-    (start-undecided _ _ _ _ asks _ (at-bump .bump .ensures) (not-firing-words (view (at-bump .bump .last .0)) (start .args .r) (found-out (at-standing .standing .result) (at-standing .standing .ensures) (at-match .match .keys2)))))
+    (visit-undecided _ _ _ _ _ asks _ (at-bump .bump .ensures) (omega arith) (start-undecided _ _ _ _ asks _ (at-bump .bump .ensures) n))
+
+returns-2 : tie.Need-returns-2
+returns-2 c = let s = c .before .before in undecided s (not-firing-words (words s) (rule s) (found-out (s .standing .result) (s .standing .ensures) (c .before .match .keys2)))
 
 returns-3 : tie.Need-returns-3
-returns-3 c =
-    let at-match = c .before in let at-standing = at-match .before in let at-bump = at-standing .before .before .before .before in
-    let at-visit-definite = at-bump .before .before .before .before in let start = at-visit-definite .before .before .before .before in let pre = start .pre in
-    let asks = second-asks _ _ _ (pre .0) (pre .1) (pre .2) (at-visit-definite .visit-definite .ensures) in
-    started-next _ _ _ (pre .1) (at-visit-definite .visit-definite .ensures)
-    (visit-undecided _ _ _ _ _ asks _ (at-bump .bump .ensures) (omega arith)
-    (start-undecided _ _ _ _ asks _ (at-bump .bump .ensures) (waiting-words (view (at-bump .bump .last .0)) (start .args .r) (found-waiting (at-standing .standing .result) (at-standing .standing .ensures) (at-match .match .keys3)) .0)))
+returns-3 c = let s = c .before .before in undecided s (waiting-words (words s) (rule s) (found-waiting (s .standing .result) (s .standing .ensures) (c .before .match .keys3)) .0)
 
 pub start-rule-spec : {M : Type 1} → statement M
 start-rule-spec =

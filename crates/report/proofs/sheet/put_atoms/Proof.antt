@@ -1,5 +1,5 @@
 -- `report::sheet::put_atoms` meets its contract. The loop's invariant: the lines of the atoms passed are put. Assumes nothing.
-use Prim.Native.Nat.{_+_, _-_, _*_, _≤_}
+use Prim.Native.Nat.{_-_, _*_, _≤_}
 use native.Mathlib.Omega.{arith}
 use mathlib.Core.Path.{_≡_, refl, _∙_, ap, subst}
 use lib.ListN.{length}
@@ -28,8 +28,7 @@ loop-holds c =
     (omega arith, refl, refl, lines-none (verdict (taggedBy 4 (marked (args .marks .now)))) (args .out .now) (args .from))
 
 verdict-of-requires : tie.Need-verdict-of-requires Inv-loop μ-loop
-verdict-of-requires c κs =
-    c .before .loop .inv .1
+verdict-of-requires c κs = c .before .loop .inv .1
 
 put-atom-requires : tie.Need-put-atom-requires Inv-loop μ-loop
 put-atom-requires c κs =

@@ -1,8 +1,8 @@
 -- `standing::marks::marks_of` meets its contract. The loop's invariant: the lines passed are marked. Assumes nothing.
-use Prim.Native.Nat.{ℕ, _-_, _≤_}
+use Prim.Native.Nat.{_-_, _≤_}
 use native.Mathlib.Omega.{arith}
-use mathlib.Core.Path.{_≡_, refl, _∙_}
-use lib.ListN.{length, take, length-replicate}
+use mathlib.Core.Path.{refl}
+use lib.ListN.{length, take}
 use Rattle.standing.specs.Marks.{Marked}
 use Rattle.standing.proofs.Marking.{marks-all, marks-next, marks-none}
 use borrow.Author.Needs.{needs}
@@ -10,27 +10,24 @@ use Rattle.standing.proofs.marks.marks_of.Statement.{statement}
 use Rattle.standing.proofs.marks.marks_of.Tie as tie
 
 abbrev Inv-loop : tie.InvT-loop
-Inv-loop log marks₀ i₀ marks i = (i ≤ length log) × (length marks ≡ 4096) × Marked (take i log) marks
+Inv-loop log marks₀ i₀ marks i = (i ≤ length log) × Marked (take i log) marks
 
 abbrev μ-loop : tie.MeasureT-loop
 μ-loop log marks₀ i₀ marks i = length log - i
 
 loop-holds : tie.Need-loop-holds Inv-loop μ-loop
-loop-holds c = (omega arith, length-replicate {A = ℕ} 4096 0, marks-none refl (c .before .args .log .now))
+loop-holds c = (omega arith, marks-none (c .before .args .log .now))
 
 mark-requires : tie.Need-mark-requires Inv-loop μ-loop
-mark-requires c κs = c .before .before .before .loop .inv .1
+mark-requires c κs = c .before .before .before .loop .inv .1 .size
 
 loop-again : tie.Need-loop-again Inv-loop μ-loop
 loop-again c =
-    let at-mark = c .before in let at-loop = at-mark .before .before .before .before in let start = at-loop .before .before in (
-      omega arith,
-      at-mark .mark .kept .0 ∙ at-loop .loop .inv .1,
-      marks-next (start .args .log .now) _ _ refl (at-mark .before .before .before .loop-test .taken) (at-loop .loop .inv .2) (at-mark .mark .ensures),
-    )
+    let at-mark = c .before in let at-loop = at-mark .before .before .before .before in
+    (omega arith, marks-next (at-loop .before .before .args .log .now) _ _ refl (omega (arith, at-mark .before .before .before .loop-test .taken)) (at-mark .mark .kept .0) (at-loop .loop .inv .1) (at-mark .mark .ensures))
 
 returns : tie.Need-returns Inv-loop μ-loop
-returns c = marks-all _ _ (c .loop-test .left) (c .before .loop .inv .2)
+returns c = marks-all _ _ (c .loop-test .left) (c .before .loop .inv .1)
 
 pub marks-of-spec : {M : Type 1} → statement M
 marks-of-spec =
