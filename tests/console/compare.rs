@@ -44,7 +44,7 @@ extern "C" {
 
 const SEED: u64 = 20_260;
 const CALLS: u64 = 600_000;
-const MUTANT_CALLS: u64 = 14_400; // the mutant that is caught last needs 14,049
+const MUTANT_CALLS: u64 = 9_000; // the mutant that is caught last needs 8,706
 const SHEET: usize = 5_041;
 const GUARD: usize = 32; // the most words of a buffer before the lent part, and the least past it
 const LOG_MOST: usize = 4_096; // the longest log lent
@@ -94,6 +94,9 @@ const MUTANTS: &[&str] = &[
     "+∂ counted by words, repeated or not",
     "out by +∂ of an antecedent's complement too",
     "a refusal has standing 2",
+    "a pair charged to its weaker rule only",
+    "pairs counted for the first 1,023 rules alone",
+    "a settled rule charged the pairs of the whole table",
 ];
 
 struct Bench {
@@ -846,13 +849,16 @@ impl Bench {
         }
     }
 
-    /// The cases of document 01, those of short logs and those of standings, against both engines.
+    fn case(&mut self, of: &str, (name, t, budget, numbers, log): Case) {
+        self.place = format!("{of}: {name}");
+        let (log_len, scratch_len) = (self.full_len(&t), self.scratch_len(true));
+        self.gives(&t, budget, log_len, scratch_len, &(answer(numbers), log.to_vec()));
+    }
+
+    /// The cases of document 01, those of counted pairs, of short logs and of standings, against both engines.
     fn cases(&mut self) {
-        for (name, t, budget, numbers, log) in cases() {
-            self.place = format!("document 01: {name}");
-            let (log_len, scratch_len) = (self.full_len(&t), self.scratch_len(true));
-            self.gives(&t, budget, log_len, scratch_len, &(answer(numbers), log.to_vec()));
-        }
+        cases().into_iter().for_each(|case| self.case("document 01", case));
+        pair_counts().into_iter().for_each(|case| self.case("document 02, S-4", case));
         self.place = "document 01: 512 atoms".to_string();
         assert_eq!(self.enough(&tables::sized(0, 512), u32::MAX).refused, 0);
         for (name, t, budget, log_len, numbers, log) in short_logs() {
@@ -1037,6 +1043,31 @@ fn cases() -> Vec<Case> {
         ("nine bytes", vec![1; 9], 0, [1, 0, 0, 0, 0], &[]),
         ("513 atoms", tables::sized(0, 513), 9_999, [2, 0, 0, 0, 0], &[]),
         ("a strange fact and a rule of kind 3", table(1, &[2], &[(3, 0, &[])], &[]), 100, [4, 0, 0, 0, 0], &[]),
+    ]
+}
+
+/// The last of n rules is settled by +∂ of the fact 0; the others have no antecedents. No two heads are complementary.
+fn settled_last(n: usize, pairs: &[(usize, usize)]) -> Vec<u8> {
+    let mut rules: Vec<(usize, usize, &[usize])> = vec![(1, 0, &[]); n];
+    rules[n - 1] = (1, 2, &[0]);
+    table(2, &[0], &rules, pairs)
+}
+
+/// Rule 0, which a pair names, is visited by +∂ of the fact 0, and settled by +∂ of the fact 2.
+fn visited_twice() -> Vec<u8> {
+    table(3, &[0, 2], &[(1, 4, &[0, 2]), (1, 0, &[])], &[(0, 1)])
+}
+
+/// Spent is Size, 1 for each line, 1 for each visit, and the pairs naming the one rule that is settled.
+fn pair_counts() -> Vec<Case> {
+    let log: &[u16] = &[0, 5, 9, 13, 2, 7, 15, 10];
+    let four = |pairs: &[(usize, usize)]| settled_last(4, pairs);
+    vec![
+        ("one pair of four names the rule", four(&[(0, 1), (0, 2), (1, 2), (1, 3)]), 99, [0, 1, 8, 8, 22], log),
+        ("three pairs of four name it, on both sides", four(&[(0, 3), (1, 2), (3, 1), (3, 2)]), 99, [0, 1, 8, 8, 24], log),
+        ("a rule visited twice is charged once", visited_twice(), 99, [0, 1, 12, 12, 25], &[0, 5, 8, 13, 17, 21, 2, 7, 10, 15, 23, 18]),
+        ("rule 1,023 is the weaker of a pair", settled_last(1_024, &[(0, 1_023)]), 9_999, [0, 1, 8, 8, 1_039], log),
+        ("rule 1,023 is the stronger of a pair", settled_last(1_024, &[(1_023, 0)]), 9_999, [0, 1, 8, 8, 1_039], log),
     ]
 }
 

@@ -287,9 +287,12 @@ impl Theory {
 
     /// "the number of pairs naming that rule", on either side, whatever the heads
     fn pairs_naming(&self, r: usize) -> usize {
+        if mutant(44) && r >= 1_023 {
+            return 0;
+        }
         self.pairs
             .iter()
-            .filter(|&&(t, s)| t == r || s == r && !mutant(9))
+            .filter(|&&(t, s)| t == r && !mutant(43) || s == r && !mutant(9) || mutant(45))
             .filter(|&&(t, s)| !mutant(8) || self.rules[t].head == complement(self.rules[s].head))
             .count()
     }

@@ -13,7 +13,7 @@ ghost use Rattle.engine.specs.Working.{Logged, Processed};
 ghost use Rattle.engine.specs.Tallies.{Next, Stepped};
 use crate::tries::try_both;
 use crate::tries::try_uses;
-use memory::inference::cost;
+use memory::charging::cost;
 use memory::layout::TAGS;
 use memory::uses::Uses;
 use memory::uses::uses_of;
@@ -67,7 +67,7 @@ fn process(
 {
     let x = log[worked as usize];
     let uses = uses_of(table, s, mem, x / TAGS);
-    let due = cost(table, s, mem, x, uses);
+    let due = cost(mem, x, uses);
     if budget - spent < due {
         return Progress {
             lines,

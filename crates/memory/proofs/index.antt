@@ -4,6 +4,7 @@ pub mod Kinds
 pub mod Turns
 pub mod Listing
 pub mod Fields
+pub mod Pairs
 pub mod Rivals
 pub mod Sorting
 pub mod Placing

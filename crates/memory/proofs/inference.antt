@@ -1,4 +1,3 @@
--- Laws of the tests and of the cost.
+-- Laws of the tests.
 pub mod Counting
 pub mod Following
-pub mod Costing

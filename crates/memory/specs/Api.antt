@@ -1,5 +1,5 @@
 -- What the working memory promises to the run above it.
-use Prim.Native.Nat.{ℕ, _+_, _<_}
+use Prim.Native.Nat.{ℕ, _+_, _%_, _≤_, _<_}
 use mathlib.Core.Path.{_≡_}
 use mathlib.Core.Bool.{Bool, false}
 use mathlib.Core.List.{List}
@@ -7,9 +7,10 @@ use lib.Dec.{eqb}
 use lib.ListN.{length, drop}
 use Rattle.logic.specs.Tests.{_or_, total}
 use Rattle.logic.specs.Theory.{Theory, complement}
-use Rattle.memory.specs.Layout.{tagCount, memorySize}
+use Rattle.memory.specs.Layout.{tagCount, fieldSize, usesSize, memorySize}
 use Rattle.memory.specs.Fields.{mark, has, sizeF}
-use Rattle.memory.specs.Memory.{view, heldOf, writtenOf, users, Invariant, Ready}
+use Rattle.memory.specs.Memory.{view, useAt, heldOf, writtenOf, users, Invariant, Ready}
+use Rattle.memory.specs.Deciding.{costBy}
 
 -- a test with one number more
 abbrev pub adds : (ℕ → Bool) → ℕ → ℕ → Bool
@@ -19,6 +20,17 @@ adds h x y = h y or eqb y x
 pub record UsesAt (d : Theory) (p first end : ℕ) : Type 0 where
   pub begin : first ≡ total p (λ q. length (users d q))
   pub finish : end ≡ first + length (users d p)
+
+-- the uses from a first one to an end are in the memory, and each is the number of a rule
+pub record UsesIn (m : List ℕ) (first end : ℕ) : Type 0 where
+  pub room : memorySize ≤ length m
+  pub order : first ≤ end
+  pub within : end ≤ usesSize
+  pub rules : (k : ℕ) → first ≤ k → k < end → useAt m k < fieldSize
+
+-- what conclusion x costs by the words of the memory, where the uses of its literal stand from a first one to an end
+abbrev pub costIn : List ℕ → ℕ → ℕ → ℕ → ℕ
+costIn m x first end = costBy (view m) (useAt m) (x % tagCount) first end
 
 -- the words past the memory, and their number, stay
 pub record Kept (m n : List ℕ) : Type 0 where

@@ -1,8 +1,9 @@
--- Document 01, When a conclusion follows, by the words of the memory: each inference rule as a test of a few counts.
-use Prim.Native.Nat.{ℕ, _+_}
+-- Document 01, When a conclusion follows, by the words of the memory: each inference rule as a test of a few counts. And its price, by the
+-- counts alone (document 02, S-4).
+use Prim.Native.Nat.{ℕ, _+_, _-_}
 use mathlib.Core.Bool.{Bool, cond}
 use lib.Dec.{ltb, eqb}
-use Rattle.logic.specs.Tests.{_and_, _or_, isnt, weigh}
+use Rattle.logic.specs.Tests.{_and_, _or_, isnt, weigh, total}
 use Rattle.logic.specs.Theory.{complement}
 use Rattle.logic.specs.Standing.{Standing, firing, out, waiting, firstFit}
 use Rattle.memory.specs.Fields.{mark, has, sizeF, kindF, namingF, strictF, supportF, headedF, factF, provedF, refutedF, firingF, outF, counteredF, unopposedF}
@@ -45,3 +46,8 @@ module _ (w : ℕ → ℕ → ℕ) where
   -- what a use of a literal adds to the cost of its tag t: a definite tag visits strict rules alone
   unfoldable pub chargeBy : ℕ → ℕ → ℕ
   chargeBy t r = cond (ltb t 2) (weigh (eqb (w kindF r) 0) 1) (1 + weigh (decidedBy t r) (w namingF r))
+
+  -- Document 01: "A line costs 1, plus 1 for each visited rule, plus, for a ∂ line, for each rule that it settles, the number of pairs
+  -- naming that rule." By its tag, and by the uses of its literal from a first one to an end.
+  abbrev pub costBy : (ℕ → ℕ) → ℕ → ℕ → ℕ → ℕ
+  costBy u t first end = 1 + total (end - first) (λ k. chargeBy t (u (first + k)))

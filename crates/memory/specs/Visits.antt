@@ -10,7 +10,7 @@ use Rattle.logic.specs.Tests.{_and_, _or_, isnt, member, countBelow, weigh}
 use Rattle.logic.specs.Theory.{Theory, Kind, isStrict, canSupport, kindOf, headOf, bodyOf}
 use Rattle.table.specs.Pairs.{PairsInOrder}
 use Rattle.memory.specs.Layout.{tagCount, memorySize}
-use Rattle.memory.specs.Fields.{mark, has, sizeF, headF, rivalsF, beatenF, lostF, provedF, firingF, counteredF, rivalsEnd, countsEnd, rivalsBase, rivalsBy, byRival}
+use Rattle.memory.specs.Fields.{mark, has, sizeF, headF, kindF, rivalsF, beatenF, lostF, provedF, firingF, counteredF, rivalsEnd, countsEnd, rivalsBase, rivalsBy, rulesBy, byRival, byItself}
 use Rattle.memory.specs.Memory.{view, useAt, rivalsOf, Indexed, fires, isOut, NeverBothAt, Invariant}
 use Rattle.memory.specs.Api.{Kept, Lacks}
 
@@ -92,6 +92,13 @@ pub record Decided (d : Theory) (t r : ℕ) (m : List ℕ) : Type 0 where
   pub lacks : Lacks (view before) t r
   pub raised : Raised (has t) r 1 before m
   pub just : T (justReached (view m) t r)
+
+-- rule r, which tag t has just decided, is counted at its head: as one that no rival stands in the way of, and, if it can support, as
+-- one that fires or is out
+pub record CountedAtHead (t r : ℕ) (m n : List ℕ) : Type 0 where
+  pub middle : List ℕ
+  pub free : Raised (byItself t) (view m headF r) (weigh (isFree (view m) t r) 1) m middle
+  pub own : Raised (rulesBy t) (view m headF r) (weigh (ltb (view m kindF r) 2) 1) middle n
 
 -- rule x is notified that a rule over it fires (t = 2), or is out (t = 3); that rule is a rival if q, the complement of its head, is x's
 -- head

@@ -25,8 +25,8 @@ pub fn standing(mem: &[u16], r: usize, plus: u32, minus: u32) -> Standing
     first_fit(proved + plus == size, refuted + minus != 0)
 }
 
-// What one antecedent more with tag t, +∂ or −∂, makes of rule r, if it waits: firing or out, if the antecedent decides it. A rule that is
-// decided already is decided by no other.
+// What one antecedent more with tag t, +∂ or −∂, makes of rule r, if it waits: firing or out, if the antecedent decides it (document 01:
+// settles). A rule that is decided already is decided by no other.
 pub fn decides(mem: &[u16], r: usize, t: usize) -> Standing
     requires { ⌜ (r < fieldSize) × (memorySize ≤ length (now mem)) × (2 ≤ t) × (t < tagCount) ⌝ }
     ensures { λ x. ⌜ meant x ≡ decidedTo (view (now (mem .entry))) t r ⌝ }

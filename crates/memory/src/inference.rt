@@ -1,9 +1,7 @@
-// What follows from what is processed, and what a conclusion costs.
-ghost use Prim.Native.Nat.{_*_, _/_, _≤_, _<_};
+// What follows from what is processed.
+ghost use Prim.Native.Nat.{_*_, _≤_, _<_};
 ghost use mathlib.Core.Path.{_≡_};
-ghost use mathlib.Core.Bool.{false};
 ghost use lib.ListN.{length};
-ghost use Rattle.logic.specs.Tests.{_and_, _or_, weigh};
 ghost use Rattle.logic.specs.Theory.{complement};
 ghost use Rattle.logic.specs.Plain.{plainSystem};
 ghost use Rattle.table.specs.declared.judge.Judgement.the-variants.{Accepted};
@@ -11,15 +9,11 @@ ghost use Rattle.table.specs.Format.{theoryIn};
 ghost use Rattle.table.specs.Refusals.{judgementOf};
 ghost use Rattle.memory.specs.Layout.{tagCount, fieldSize, memorySize};
 ghost use Rattle.memory.specs.Memory.{view, heldOf, Ready};
-ghost use Rattle.memory.specs.Api.{adds, UsesAt};
-ghost use Rattle.memory.specs.Deciding.{processed, definitelyBy, notDefinitelyBy, defeasiblyBy, notDefeasiblyBy, chargeBy};
-use crate::deciding::decides;
+ghost use Rattle.memory.specs.Deciding.{processed, definitelyBy, notDefinitelyBy, defeasiblyBy, notDefeasiblyBy};
 use crate::fields::COUNTERED;
 use crate::fields::FACT;
 use crate::fields::FIRING;
 use crate::fields::HEADED;
-use crate::fields::KIND;
-use crate::fields::NAMING;
 use crate::fields::OUT;
 use crate::fields::PROVED;
 use crate::fields::REFUTED;
@@ -27,10 +21,7 @@ use crate::fields::STRICT;
 use crate::fields::SUPPORT;
 use crate::fields::UNOPPOSED;
 use crate::layout::TAGS;
-use crate::uses::Uses;
 use crate::words::load;
-use crate::words::load_use;
-use standing::answer::Standing;
 use table::format::Literal;
 use table::format::Sizes;
 use values::both;
@@ -120,41 +111,4 @@ pub fn follows(table: &[u8], s: Sizes, mem: &[u16], x: u16) -> bool
         2 => defeasibly(mem, q),
         _ => not_defeasibly(mem, q),
     }
-}
-
-fn weigh(test: bool, n: u16) -> u32
-    ensures { λ r. ⌜ (r ≡ weigh test n) × (r ≤ 65535) ⌝ }
-{
-    if test { n as u32 } else { 0 }
-}
-
-// What rule r, which uses a literal, adds to the cost of its tag t.
-fn charge(mem: &[u16], r: usize, t: usize) -> u32
-    requires { ⌜ (r < fieldSize) × (memorySize ≤ length (now mem)) × (t < tagCount) ⌝ }
-    ensures { λ x. ⌜ (x ≡ chargeBy (view (now (mem .entry))) t r) × (x ≤ 65536) ⌝ }
-{
-    if t < 2 {
-        return weigh(load(mem, KIND, r) == 0, 1);
-    }
-    match decides(mem, r, t) {
-        Standing::Firing => 1 + load(mem, NAMING, r) as u32,
-        Standing::Out => 1 + load(mem, NAMING, r) as u32,
-        Standing::Waiting => 1,
-    }
-}
-
-// The cost of processing a conclusion that is not processed.
-pub fn cost(table: &[u8], s: Sizes, mem: &[u16], x: u16, uses: Uses) -> u32
-    requires { ⌜ (judgementOf (now table) ≡ Accepted s) × Ready (theoryIn (now table) s) (now mem) × (x < tagCount * (2 * s .atoms)) × (heldOf (now mem) x ≡ false) × UsesAt (theoryIn (now table) s) (x / tagCount) (uses .first) (uses .end) ⌝ }
-    ensures { λ r. ⌜ r ≡ plainSystem (theoryIn (now (table .entry)) s) .cost (heldOf (now (mem .entry))) (adds (heldOf (now (mem .entry))) x) x ⌝ }
-{
-    let t = (x % TAGS) as usize;
-    let mut sum: u32 = 1;
-    let end = uses.end;
-    let mut k = uses.first;
-    while k < end {
-        sum += charge(mem, load_use(mem, k) as usize, t);
-        k += 1;
-    }
-    sum
 }

@@ -10,8 +10,8 @@ ghost use Rattle.memory.specs.Layout.{memorySize};
 ghost use Rattle.memory.specs.Api.{Prepared};
 ghost use Rattle.memory.specs.Indexing.{Low, Started};
 use crate::counting::add_entries;
-use crate::counting::add_pairs;
 use crate::counting::add_rules;
+use crate::counting::count_pairs;
 use crate::counting::mark_facts;
 use crate::counting::mark_firsts;
 use crate::deciding::standing;
@@ -19,7 +19,7 @@ use crate::fields::HAS_PROVED;
 use crate::layout::MEMORY_SIZE;
 use crate::sorting::begin_uses;
 use crate::sorting::place_uses;
-use crate::visit::decide;
+use crate::visit::propagate;
 use crate::visit::visit_definite;
 use crate::words::bump;
 use standing::answer::Standing;
@@ -45,7 +45,7 @@ fn fill(table: &[u8], s: Sizes, mem: &mut [u16])
     add_rules(table, s, mem);
     mark_facts(table, s, mem);
     add_entries(table, s, mem);
-    add_pairs(table, s, mem);
+    count_pairs(table, s, mem);
     mark_firsts(table, s, mem);
     begin_uses(table, s, mem);
     place_uses(table, s, mem);
@@ -60,7 +60,7 @@ fn start_rule(table: &[u8], s: Sizes, mem: &mut [u16], r: usize)
     visit_definite(table, s, mem, r, 0);
     bump(mem, HAS_PROVED, r);
     match standing(mem, r, 0, 0) {
-        Standing::Firing => decide(table, s, mem, r, 2),
+        Standing::Firing => propagate(table, s, mem, r, 2),
         Standing::Out => {}
         Standing::Waiting => {}
     }

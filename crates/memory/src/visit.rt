@@ -2,7 +2,7 @@
 ghost use Prim.Native.Nat.{_+_, _*_, _/_, _≤_, _<_};
 ghost use mathlib.Core.Path.{_≡_};
 ghost use mathlib.Core.Bool.{true, false};
-ghost use lib.Dec.{T};
+ghost use lib.Dec.{T, ltb};
 ghost use lib.ListN.{length};
 ghost use Rattle.logic.specs.Tests.{_and_, weigh};
 ghost use Rattle.logic.specs.Theory.{canSupport, kindOf};
@@ -11,10 +11,10 @@ ghost use Rattle.table.specs.declared.judge.Judgement.the-variants.{Accepted};
 ghost use Rattle.table.specs.Format.{theoryIn};
 ghost use Rattle.table.specs.Refusals.{judgementOf};
 ghost use Rattle.memory.specs.Layout.{tagCount, fieldCount, fieldSize, memorySize};
-ghost use Rattle.memory.specs.Fields.{has, sizeF, headF, rivalsBy, byRival};
+ghost use Rattle.memory.specs.Fields.{has, sizeF, headF, kindF, rivalsBy, rulesBy, byRival, byItself};
 ghost use Rattle.memory.specs.Memory.{view, heldOf, writtenOf, NeverBothAt, Invariant, Ready};
 ghost use Rattle.memory.specs.Api.{adds, UsesAt, Lacks, Visited, Added};
-ghost use Rattle.memory.specs.Visits.{WellFormed, Raised, threshold, justReached, reached, decidedFor, notifies, notifiedBelow, isFree, justReachedByRival, Open, Unchanged, Decided, Notified, Spread};
+ghost use Rattle.memory.specs.Visits.{WellFormed, Raised, threshold, justReached, reached, decidedFor, notifies, notifiedBelow, isFree, justReachedByRival, Open, Unchanged, Decided, CountedAtHead, Notified, Spread};
 use crate::deciding::decides;
 use crate::deciding::standing;
 use crate::fields::BEATEN;
@@ -173,19 +173,28 @@ pub fn visit_definite(table: &[u8], s: Sizes, mem: &mut [u16], r: usize, t: usiz
     bump_if(mem, RULES_BY + t, head, strict);
 }
 
-// A visit with tag +∂ or −∂ that has decided rule r: the rule is counted, and a supporter notifies the rules that it is over. Of two calls
-// of `walk` the compiler makes a function of it, and what most visits do stays small.
-pub fn decide(table: &[u8], s: Sizes, mem: &mut [u16], r: usize, t: usize)
-    requires { ⌜ WellFormed (theoryIn (now table) s) × Decided (theoryIn (now table) s) t r (now mem) × (r < s .rules) × (2 ≤ t) × (t < tagCount) ⌝ }
-    requires { ⌜ (r < fieldSize) × (memorySize ≤ length (now mem)) ⌝ }
-    ensures { λ _. ⌜ Unchanged (now (mem .entry)) (now (mem .exit)) × Invariant (theoryIn (now (table .entry)) s) (now (mem .exit)) ⌝ }
+// Rule r, which a visit with tag +∂ or −∂ has decided, is counted at its head. Whether it can support, and so has rules to notify.
+fn count_decided(mem: &mut [u16], r: usize, t: usize) -> bool
+    requires { ⌜ (r < fieldSize) × (2 ≤ t) × (t < tagCount) × (memorySize ≤ length (now mem)) × (view (now mem) headF r < fieldSize) ⌝ }
+    requires { ⌜ (view (now mem) (byItself t) (view (now mem) headF r) < 65535) × (view (now mem) (rulesBy t) (view (now mem) headF r) < 65535) ⌝ }
+    ensures { λ x. ⌜ CountedAtHead t r (now (mem .entry)) (now (mem .exit)) × (x ≡ ltb (view (now (mem .entry)) kindF r) 2) ⌝ }
 {
     let head = wide(load(mem, HEAD, r));
     let supports = load(mem, KIND, r) < 2;
     let free = is_free(mem, r, t);
     bump_if(mem, BY_ITSELF - t, head, free);
     bump_if(mem, RULES_BY + t, head, supports);
-    if !supports {
+    supports
+}
+
+// A visit with tag +∂ or −∂ has decided rule r: it is counted, without its pairs (document 02, S-4), and then a supporter notifies the
+// rules that it is over. Of two calls of `walk` the compiler makes a function of it, and what most visits do stays small.
+pub fn propagate(table: &[u8], s: Sizes, mem: &mut [u16], r: usize, t: usize)
+    requires { ⌜ WellFormed (theoryIn (now table) s) × Decided (theoryIn (now table) s) t r (now mem) × (r < s .rules) × (2 ≤ t) × (t < tagCount) ⌝ }
+    requires { ⌜ (r < fieldSize) × (memorySize ≤ length (now mem)) ⌝ }
+    ensures { λ _. ⌜ Unchanged (now (mem .entry)) (now (mem .exit)) × Invariant (theoryIn (now (table .entry)) s) (now (mem .exit)) ⌝ }
+{
+    if !count_decided(mem, r, t) {
         return;
     }
     if t == 2 {
@@ -207,8 +216,8 @@ fn visit(table: &[u8], s: Sizes, mem: &mut [u16], r: usize, t: usize)
     let next = decides(mem, r, t);
     bump(mem, HAS + t, r);
     match next {
-        Standing::Firing => decide(table, s, mem, r, 2),
-        Standing::Out => decide(table, s, mem, r, 3),
+        Standing::Firing => propagate(table, s, mem, r, 2),
+        Standing::Out => propagate(table, s, mem, r, 3),
         Standing::Waiting => {}
     }
 }

@@ -1,5 +1,5 @@
 -- A line is worked with a tally: what the test of its cost decides, and what the tally tells of it. Assumes nothing.
-use Prim.Native.Nat.{ℕ, _+_, _-_, _≤_, _<_}
+use Prim.Native.Nat.{ℕ, _+_, _-_, _*_, _/_, _≤_, _<_}
 use native.Mathlib.Nat.{lt-irrefl, not-le-of-lt}
 use native.Mathlib.Omega.{arith}
 use mathlib.Core.Path.{_≡_, refl, sym, _∙_, ap, subst}
@@ -10,9 +10,17 @@ use lib.Dec.{leb→le, le→leb}
 use borrow.Author.Tests.{leb-false, le-leb, lt-leb}
 use Rattle.logic.specs.Theory.{Theory}
 use Rattle.logic.proofs.Tests.{false-of, test-cases}
+use Rattle.table.specs.declared.format.Sizes.{Sizes}
+use Rattle.table.specs.declared.judge.Judgement.the-variants.{Accepted}
+use Rattle.table.specs.Format.{theoryIn}
+use Rattle.table.specs.Refusals.{judgementOf}
+use Rattle.memory.specs.Layout.{tagCount}
+use Rattle.memory.specs.Api.{UsesAt, UsesIn, costIn}
+use Rattle.memory.proofs.charging.Costing.{cost-processed, uses-in}
 use Rattle.engine.specs.declared.tally.Tally.{Tally}
-use Rattle.engine.specs.Tallies.{next, due, fits, tallyAfter, Stepped}
+use Rattle.engine.specs.Tallies.{next, due, fits, tallyAfter, Next, Stepped}
 use Rattle.engine.specs.Working.{Processed}
+use Rattle.engine.proofs.run.Trying.{atoms-in}
 
 -- the tally after a cost that does not fit, and after one that fits
 pub tally-same : (budget cost : ℕ) (t : Tally) → budget - t .spent < cost → tallyAfter budget cost t ≡ t
@@ -22,6 +30,18 @@ tally-same budget cost t h = ap (λ b. cond b (record { worked = t .worked + 1; 
 pub tally-more : (budget cost : ℕ) (t : Tally) → cost ≤ budget - t .spent → tallyAfter budget cost t ≡ record { worked = t .worked + 1; spent = t .spent + cost }
 unfolding tallyAfter
 tally-more budget cost t h = ap (λ b. cond b (record { worked = t .worked + 1; spent = t .spent + cost }) t) (le-leb cost (budget - t .spent) h)
+
+-- The cost of the next line by the memory is the reading's.
+module _ (b : List ℕ) (s : Sizes) (budget : ℕ) (mem log : List ℕ) (n : ℕ) (t : Tally) (accepted : judgementOf b ≡ Accepted s) (g : Next (theoryIn b s) budget mem log n t)
+    {first end : ℕ} (at : UsesAt (theoryIn b s) (next log t / tagCount) first end) where
+  small : next log t < tagCount * (2 * s .atoms)
+  small = omega (arith, atoms-in b s, g .small)
+
+  pub cost-asks : UsesIn mem first end
+  cost-asks = uses-in b s mem (next log t) accepted (g .logged .ready) small at
+
+  pub cost-due : {cost : ℕ} → cost ≡ costIn mem (next log t) first end → cost ≡ due (theoryIn b s) mem (next log t)
+  cost-due e = e ∙ cost-processed b s mem (next log t) accepted (g .logged .ready) small at (g .new)
 
 module _ (d : Theory) (budget : ℕ) (mem log : List ℕ) (n : ℕ) (t : Tally) (cost : ℕ) (paid : cost ≡ due d mem (next log t)) where
   pub stepped-stops : budget - t .spent < cost → Stepped d budget mem log n t mem log n t

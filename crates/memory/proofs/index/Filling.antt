@@ -19,12 +19,12 @@ use Rattle.table.proofs.Legal.{legal, Limited, limited, ranged, head-below, str
 use Rattle.memory.specs.Layout.{tagCount, fieldCount, fieldSize, usesSize, memorySize}
 use Rattle.memory.specs.Fields.{has, sizeF, headF, kindF, namingF, rivalsF, firstF, beatenF, lostF, usesF, strictF, supportF, headedF, factF, provedF, refutedF, firingF, outF, counteredF, unopposedF, inIndex}
 use Rattle.memory.specs.Memory.{view, useAt, users, usesFrom, Indexed, fires, isOut, Counted}
-use Rattle.memory.specs.Indexing.{rivals, rulesTo, entriesTo, pairsTo, Grew, Low, Ruled, Facts, Firsts, useCount, usesBelow, usesTo, Begun, Placed, Started}
+use Rattle.memory.specs.Indexing.{rulesTo, entriesTo, Grew, Low, Ruled, Unpaired, Paired, Facts, Firsts, useCount, usesBelow, usesTo, Begun, Placed, Started}
 use Rattle.memory.proofs.Views.{below-index, kept-then, past-rule}
 use Rattle.memory.proofs.index.Turns.{entries-most, rules-most}
 use Rattle.memory.proofs.index.Sorting.{uses-few}
 use Rattle.memory.proofs.index.Placing.{entry-rules, placed-list}
-use Rattle.memory.proofs.index.Fields.{entries-facts, index-headed, index-heads, index-kinds, index-namings, index-outside, index-rivals, index-sizes, index-stricts, index-supports, index-uses, indexTo, pairs-facts, pairs-heads, pairs-kinds, rules-facts}
+use Rattle.memory.proofs.index.Fields.{entries-facts, index-headed, index-heads, index-kinds, index-outside, index-pairs, index-sizes, index-stricts, index-supports, index-uses, indexTo, rules-facts}
 
 -- outside the memory's indices there is 0
 past : (m : List ℕ) (f i : ℕ) → fieldSize ≤ i → view m f i ≡ 0
@@ -70,28 +70,36 @@ module _ (b : List ℕ) (s : Sizes) (a : judgementOf b ≡ Accepted s) {m0 m1 : 
       unfolding theoryIn
       ruled-3 =
           record {
-            heads = λ r h. omega (arith, z .low headF r, g1 .words headF r, g2 .only .others headF r (λ e. absurd (omega arith)), g3 .words headF r, index-heads b s r h, pairs-heads b s (s .pairs) r);
-            kinds = λ r h. omega (arith, z .low kindF r, g1 .words kindF r, g2 .only .others kindF r (λ e. absurd (omega arith)), g3 .words kindF r, index-kinds b s r h, pairs-kinds b s (s .pairs) r);
+            heads = λ r h. omega (arith, z .low headF r, g1 .words headF r, g2 .only .others headF r (λ e. absurd (omega arith)), g3 .words headF r, index-heads b s r h);
+            kinds = λ r h. omega (arith, z .low kindF r, g1 .words kindF r, g2 .only .others kindF r (λ e. absurd (omega arith)), g3 .words kindF r, index-kinds b s r h);
           }
 
-      module _ {m4 : List ℕ} (g4 : Grew m3 m4 (pairsTo (theoryIn b s) (s .pairs))) where
+      -- and no pair is counted
+      pub unpaired-3 : Unpaired m3
+      unpaired-3 =
+          record {
+            namings = λ r. omega (arith, z .low namingF r, g1 .words namingF r, g2 .only .others namingF r (λ e. absurd (omega arith)), g3 .words namingF r, index-pairs b s r .0);
+            rivals = λ r. omega (arith, z .low rivalsF r, g1 .words rivalsF r, g2 .only .others rivalsF r (λ e. absurd (omega arith)), g3 .words rivalsF r, index-pairs b s r .1);
+          }
+
+      module _ {m4 : List ℕ} (g4 : Paired (theoryIn b s) m3 m4) where
         pub room-4 : memorySize ≤ length m4
         room-4 = omega (arith, low-3 .room, g4 .kept .size)
 
-        -- all but the facts
-        words-4 : (f i : ℕ) → (f ≡ factF → ⊥) → view m4 f i ≡ indexTo b s f i
-        words-4 f i n = omega (arith, z .low f i, g1 .words f i, g2 .only .others f i n, g3 .words f i, g4 .words f i)
+        -- all but the facts and the pairs
+        words-4 : (f i : ℕ) → (f ≡ factF → ⊥) → (f ≡ namingF → ⊥) → (f ≡ rivalsF → ⊥) → view m4 f i ≡ indexTo b s f i
+        words-4 f i n o p = omega (arith, z .low f i, g1 .words f i, g2 .only .others f i n, g3 .words f i, g4 .others f i o p)
 
         facts-4 : (q : ℕ) → q < fieldSize → view m4 factF q ≡ weigh (isFact (theoryIn b s) q) 1
         unfolding theoryIn
-        facts-4 q h = omega (arith, g4 .words factF q, g3 .words factF q, g2 .marked q h, entries-facts b s q, pairs-facts b s q)
+        facts-4 q h = omega (arith, g4 .others factF q (λ e. absurd (omega arith)) (λ e. absurd (omega arith)), g3 .words factF q, g2 .marked q h, entries-facts b s q)
 
         module _ {m5 : List ℕ} (g5 : Firsts (theoryIn b s) 0 m4 m5) where
           pub room-5 : memorySize ≤ length m5
           room-5 = omega (arith, room-4, g5 .only .kept .size)
 
           pub uses-5 : (q : ℕ) → q < fieldSize → view m5 usesF q ≡ useCount b s q
-          uses-5 q _ = g5 .only .others usesF q (λ e. absurd (omega arith)) ∙ words-4 usesF q (λ e. absurd (omega arith)) ∙ index-uses b s q
+          uses-5 q _ = g5 .only .others usesF q (λ e. absurd (omega arith)) ∙ words-4 usesF q (λ e. absurd (omega arith)) (λ e. absurd (omega arith)) (λ e. absurd (omega arith)) ∙ index-uses b s q
 
           module _ {m6 : List ℕ} (g6 : Begun b s (2 * s .atoms) m5 m6) where
             pub room-6 : memorySize ≤ length m6
@@ -104,22 +112,25 @@ module _ (b : List ℕ) (s : Sizes) (a : judgementOf b ≡ Accepted s) {m0 m1 : 
               room-7 : memorySize ≤ length m7
               room-7 = omega (arith, room-6, g7 .kept .size)
 
-              -- all but the facts, the firsts and the uses
-              words-7 : (f i : ℕ) → (f ≡ factF → ⊥) → (f ≡ firstF → ⊥) → (f ≡ usesF → ⊥) → view m7 f i ≡ indexTo b s f i
-              words-7 f i n o p = g7 .others f i p ∙ g6 .only .others f i p ∙ g5 .only .others f i o ∙ words-4 f i n
+              -- all but the firsts and the uses stay, and of these all but the facts and the pairs are the rules' and entries'
+              same-7 : (f i : ℕ) → (f ≡ firstF → ⊥) → (f ≡ usesF → ⊥) → view m7 f i ≡ view m4 f i
+              same-7 f i n o = g7 .others f i o ∙ g6 .only .others f i o ∙ g5 .only .others f i n
 
-              -- a field that is not one of these three, by a test that they pass or that it does not
+              words-7 : (f i : ℕ) → (f ≡ factF → ⊥) → (f ≡ namingF → ⊥) → (f ≡ rivalsF → ⊥) → (f ≡ firstF → ⊥) → (f ≡ usesF → ⊥) → view m7 f i ≡ indexTo b s f i
+              words-7 f i n o p u v = same-7 f i u v ∙ words-4 f i n o p
+
+              -- a field that is not one of these, by a test that they pass or that it does not
               moving-7 : (f i : ℕ) → (T (inIndex f) → ⊥) → view m7 f i ≡ 0
               unfolding inIndex _and_ _or_
               moving-7 f i n =
-                  words-7 f i (apart factF tt) (apart firstF tt) (apart usesF tt) ∙ index-outside b s f i n
+                  words-7 f i (apart factF tt) (apart namingF tt) (apart rivalsF tt) (apart firstF tt) (apart usesF tt) ∙ index-outside b s f i n
                 where
                   apart : (g : ℕ) → T (inIndex g) → f ≡ g → ⊥
                   apart g t e = n (subst (λ z. T (inIndex z)) (sym e) t)
 
-              fixed : (f i : ℕ) → (f < firstF) ⊎ ((usesF < f) × (f < factF)) → view m7 f i ≡ indexTo b s f i
-              fixed f i (inl h) = words-7 f i (λ e. absurd (omega arith)) (λ e. absurd (omega arith)) (λ e. absurd (omega arith))
-              fixed f i (inr h) = words-7 f i (λ e. absurd (omega arith)) (λ e. absurd (omega arith)) (λ e. absurd (omega arith))
+              fixed : (f i : ℕ) → (f < namingF) ⊎ ((usesF < f) × (f < factF)) → view m7 f i ≡ indexTo b s f i
+              fixed f i (inl h) = words-7 f i (λ e. absurd (omega arith)) (λ e. absurd (omega arith)) (λ e. absurd (omega arith)) (λ e. absurd (omega arith)) (λ e. absurd (omega arith))
+              fixed f i (inr h) = words-7 f i (λ e. absurd (omega arith)) (λ e. absurd (omega arith)) (λ e. absurd (omega arith)) (λ e. absurd (omega arith)) (λ e. absurd (omega arith))
 
               ends : (q : ℕ) → q < 2 * s .atoms → view m7 usesF q ≡ usesBelow b s q + useCount b s q
               ends q h = g7 .next q h
@@ -159,9 +170,7 @@ module _ (b : List ℕ) (s : Sizes) (a : judgementOf b ≡ Accepted s) {m0 m1 : 
                   (omega (arith, r .1), ap (λ k. pairAt b s k .stronger) e ∙ r .2)
 
               facts-7 : (q : ℕ) → q < 2 * s .atoms → view m7 factF q ≡ weigh (isFact (theoryIn b s) q) 1
-              facts-7 q h =
-                  g7 .others factF q (λ e. absurd (omega arith)) ∙ g6 .only .others factF q (λ e. absurd (omega arith)) ∙ g5 .only .others factF q (λ e. absurd (omega arith))
-                  ∙ facts-4 q (omega (arith, small .atoms))
+              facts-7 q h = same-7 factF q (λ e. absurd (omega arith)) (λ e. absurd (omega arith)) ∙ facts-4 q (omega (arith, small .atoms))
 
               indexed : Indexed (theoryIn b s) (view m7) (useAt m7)
               unfolding theoryIn users
@@ -170,8 +179,8 @@ module _ (b : List ℕ) (s : Sizes) (a : judgementOf b ≡ Accepted s) {m0 m1 : 
                     sizes = λ r h. fixed sizeF r (inl (omega arith)) ∙ index-sizes b s r h;
                     heads = λ r h. fixed headF r (inl (omega arith)) ∙ index-heads b s r h;
                     kinds = λ r h. fixed kindF r (inl (omega arith)) ∙ index-kinds b s r h;
-                    namings = λ r h. fixed namingF r (inl (omega arith)) ∙ index-namings b s (legal b s a) r;
-                    rivals = λ r h. fixed rivalsF r (inl (omega arith)) ∙ index-rivals b s r;
+                    namings = λ r h. same-7 namingF r (λ e. absurd (omega arith)) (λ e. absurd (omega arith)) ∙ g4 .namings r;
+                    rivals = λ r h. same-7 rivalsF r (λ e. absurd (omega arith)) (λ e. absurd (omega arith)) ∙ g4 .rivals r;
                     firsts = firsts-7;
                     uses = uses-list;
                     within = uses-within;

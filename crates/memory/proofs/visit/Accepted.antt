@@ -97,9 +97,9 @@ module _ (b : List ℕ) (s : Sizes) where
       pub visit-undecided : 2 ≤ t → decidedBy (view m) t r ≡ false → Visited (theoryIn b s) t r m n
       visit-undecided l e = undecided (theoryIn b s) m n t r (p .3) inside (p .1) (p .4) raised (sym (just l)) e
 
-      pub decide-asks : (u : ℕ) → t ≡ u → 2 ≤ t → T (decidedBy (view m) t r)
+      pub propagate-asks : (u : ℕ) → t ≡ u → 2 ≤ t → T (decidedBy (view m) t r)
           → (WellFormed (theoryIn b s) × Decided (theoryIn b s) u r n × (r < s .rules) × (2 ≤ u) × (u < tagCount)) × ((r < fieldSize) × (memorySize ≤ length n))
-      decide-asks u e l y = (
+      propagate-asks u e l y = (
         subst (λ z. WellFormed (theoryIn b s) × Decided (theoryIn b s) z r n × (r < s .rules) × (2 ≤ z) × (z < tagCount)) e
             (well-formed (p .0), record { before = m; invariant = p .1; lacks = p .4; raised = raised; just = subst T (sym (just l)) y }, p .2, l, p .3),
         (small, omega (arith, p .1 .room, raised .kept .size)),

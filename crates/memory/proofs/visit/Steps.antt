@@ -17,7 +17,7 @@ use Rattle.memory.specs.Fields.{has, sizeF, headF, kindF, namingF, rival
 use Rattle.memory.specs.Memory.{view, useAt, users, Indexed, NeverBothAt, Invariant}
 use Rattle.memory.specs.Api.{Kept, Lacks, Visited}
 use Rattle.memory.specs.Indexing.{rivals}
-use Rattle.memory.specs.Visits.{WellFormed, Grown, Raised, threshold, justReached, reached, allowed, decidedFor, notifies, notifiedBelow, isFree, justReachedByRival, CountedBy, Open, Unchanged, Decided, Notified}
+use Rattle.memory.specs.Visits.{WellFormed, Grown, Raised, threshold, justReached, reached, allowed, decidedFor, notifies, notifiedBelow, isFree, justReachedByRival, CountedBy, Open, Unchanged, Decided, CountedAtHead, Notified}
 use Rattle.memory.proofs.Views.{below-index, kept-then, past-rule, rest-set, use-set, view-set, view-set-field, view-set-index}
 use Rattle.memory.proofs.visit.Counts.{Turns, counted-of, counts-ext, counts-literal, counts-of, decided-literal, decided-marks, decided-tag, grown-other, reached-same, reached-step, turns-and, turns-no, turns-of, turns-or, turns-yes}
 use Rattle.memory.proofs.index.Kinds.{strict-number, support-number}
@@ -473,63 +473,108 @@ module _ (d : Theory) (m m1 : List ℕ) (t r : ℕ) (h : t < tagCount) (k : r < 
         (ap (λ z. eqb z 0) (e' ∙ i .words .field kindF r (λ f. omega arith) ∙ s .index .kinds r k) ∙ strict-number (kindOf d r)
         ∙ ap (_and isStrict (kindOf d r)) (sym y ∙ a ∙ just-reached-is)) u))
 
+-- a rule is counted at its head, of the values that the code has at hand
+pub head-small : (r f : ℕ) (m : List ℕ) {head : ℕ} → head ≡ view m headF r → f < fieldCount → memorySize ≤ length m → view m headF r < fieldSize
+    → view m f (view m headF r) < 65535 → (f < fieldCount) × (head < fieldSize) × (memorySize ≤ length m) × (view m f head < 65535)
+head-small r f m e h l k w = (h, omega arith, l, subst (λ z. view m f z < 65535) (sym e) w)
+
+module _ (t r : ℕ) (m : List ℕ) {head : ℕ} (e : head ≡ view m headF r) where
+  pub own-small : (m2 : List ℕ) {n : ℕ} → 2 ≤ t → t < tagCount → memorySize ≤ length m → view m headF r < fieldSize → view m (rulesBy t) (view m headF r) < 65535
+      → Raised (byItself t) head n m m2 → (rulesBy t < fieldCount) × (head < fieldSize) × (memorySize ≤ length m2) × (view m2 (rulesBy t) head < 65535)
+  own-small m2 lo hi l k w u =
+      let x = head-small r (rulesBy t) m e (omega arith) l k w in
+      (x .0, x .1, omega (arith, u .kept .size), omega (arith, x .3, u .words .field (rulesBy t) head (λ f. omega arith)))
+
+  pub counted-at-head : (m2 m3 : List ℕ) {kind : ℕ} {x : Bool} → kind ≡ view m kindF r → x ≡ isFree (view m) t r → Raised (byItself t) head (weigh x 1) m m2
+      → Raised (rulesBy t) head (weigh (ltb kind 2) 1) m2 m3 → CountedAtHead t r m m3
+  counted-at-head m2 m3 f a u v =
+      record {
+        middle = m2;
+        free = subst (λ z. Raised (byItself t) z (weigh (isFree (view m) t r) 1) m m2) e (subst (λ z. Raised (byItself t) head (weigh z 1) m m2) a u);
+        own = subst (λ z. Raised (rulesBy t) z (weigh (ltb (view m kindF r) 2) 1) m2 m3) e (subst (λ z. Raised (rulesBy t) head (weigh (ltb z 2) 1) m2 m3) f v);
+      }
+
 -- a rule that is decided for a defeasible tag
-module _ (d : Theory) (m1 : List ℕ) (t r : ℕ) (lo : 2 ≤ t) (hi : t < tagCount) (k : r < d .rules) (c : Decided d t r m1) {head : ℕ} (e : head ≡ view m1 headF r) where
-  head-before : head ≡ view (c .before) headF r
-  head-before = e ∙ c .raised .words .field headF r (λ f. omega arith)
+module _ (d : Theory) (m1 : List ℕ) (t r : ℕ)
+    (p : (WellFormed d × Decided d t r m1 × (r < d .rules) × (2 ≤ t) × (t < tagCount)) × ((r < fieldSize) × (memorySize ≤ length m1))) where
+  abbrev c : Decided d t r m1
+  c = p .0 .1
+
+  abbrev k : r < d .rules
+  k = p .0 .2
+
+  abbrev lo : 2 ≤ t
+  lo = p .0 .3
+
+  abbrev hi : t < tagCount
+  hi = p .0 .4
+
+  head-before : view m1 headF r ≡ view (c .before) headF r
+  head-before = c .raised .words .field headF r (λ f. omega arith)
 
   -- its counts fit a word
-  pub decide-small : WellFormed d → (f : ℕ) → provedF ≤ f → f < countsEnd → (f < fieldCount) × (head < fieldSize) × (memorySize ≤ length m1) × (view m1 f head < 65535)
-  decide-small o f l u =
-      count-small d o (c .before) m1 f r head (c .invariant) k head-before l u (c .raised .kept .size) (c .raised .words .field f head (λ j. omega arith))
+  fits : (f : ℕ) → provedF ≤ f → f < countsEnd → (f < fieldCount) × (view m1 headF r < fieldSize) × (memorySize ≤ length m1) × (view m1 f (view m1 headF r) < 65535)
+  fits f l u =
+      count-small d (p .0 .0) (c .before) m1 f r (view m1 headF r) (c .invariant) k head-before l u (c .raised .kept .size) (c .raised .words .field f (view m1 headF r) (λ j. omega arith))
 
-  pub decide-small-next : WellFormed d → {m2 : List ℕ} {n : ℕ} → Raised (byItself t) head n m1 m2
-      → (rulesBy t < fieldCount) × (head < fieldSize) × (memorySize ≤ length m2) × (view m2 (rulesBy t) head < 65535)
-  decide-small-next o u =
-      let w = decide-small o (rulesBy t) (omega arith) (omega arith) in
-      (w .0, w .1, omega (arith, w .2, u .kept .size), omega (arith, w .3, u .words .field (rulesBy t) head (λ e. omega arith)))
+  pub count-asks : ((r < fieldSize) × (2 ≤ t) × (t < tagCount) × (memorySize ≤ length m1) × (view m1 headF r < fieldSize))
+      × ((view m1 (byItself t) (view m1 headF r) < 65535) × (view m1 (rulesBy t) (view m1 headF r) < 65535))
+  count-asks =
+      let x = fits (byItself t) (omega (arith, hi)) (omega (arith, lo)) in
+      ((p .1 .0, lo, hi, x .2, x .1), (x .3, fits (rulesBy t) (omega (arith, hi)) (omega (arith, hi)) .3))
 
-  module _ {kind : ℕ} (e' : kind ≡ view m1 kindF r) {x : Bool} (a : x ≡ isFree (view m1) t r) (m2 m3 : List ℕ) (u : Raised (byItself t) head (weigh x 1) m1 m2)
-      (u' : Raised (rulesBy t) head (weigh (ltb kind 2) 1) m2 m3) where
+  module _ (m3 : List ℕ) {x : Bool} (e : CountedAtHead t r m1 m3 × (x ≡ ltb (view m1 kindF r) 2)) where
+    abbrev g : CountedAtHead t r m1 m3
+    g = e .0
+
     abbrev m : List ℕ
     m = c .before
 
-    head-is : head ≡ headOf d r
+    head-is : view m1 headF r ≡ headOf d r
     head-is = head-before ∙ c .invariant .index .heads r k
 
     both-is : (b : Bool) → b ≡ eqb (view m1 (has t) r) (threshold t (view m sizeF r)) and b
     unfolding _and_
     both-is b = ap (_and b) (sym (true-of _ (c .just)) ∙ just-reached-is d m m1 t r hi k (c .invariant) (c .lacks) (c .raised))
 
-    supports-is : ltb kind 2 ≡ canSupport (kindOf d r)
-    supports-is = ap (λ q. ltb q 2) (e' ∙ c .raised .words .field kindF r (λ f. omega arith) ∙ c .invariant .index .kinds r k) ∙ support-number (kindOf d r)
+    supports-is : ltb (view m1 kindF r) 2 ≡ canSupport (kindOf d r)
+    supports-is = ap (λ q. ltb q 2) (c .raised .words .field kindF r (λ f. omega arith) ∙ c .invariant .index .kinds r k) ∙ support-number (kindOf d r)
 
-    free-raised : Raised (byItself t) (headOf d r) (weigh (eqb (view m1 (has t) r) (threshold t (view m sizeF r)) and isFree (view m1) t r) 1) m1 m2
+    free-raised : Raised (byItself t) (headOf d r) (weigh (eqb (view m1 (has t) r) (threshold t (view m sizeF r)) and isFree (view m1) t r) 1) m1 (g .middle)
     free-raised =
-        subst (λ q. Raised (byItself t) q (weigh (eqb (view m1 (has t) r) (threshold t (view m sizeF r)) and isFree (view m1) t r) 1) m1 m2) head-is
-        (subst (λ q. Raised (byItself t) head (weigh q 1) m1 m2) (a ∙ both-is (isFree (view m1) t r)) u)
+        subst (λ q. Raised (byItself t) q (weigh (eqb (view m1 (has t) r) (threshold t (view m sizeF r)) and isFree (view m1) t r) 1) m1 (g .middle)) head-is
+        (subst (λ q. Raised (byItself t) (view m1 headF r) (weigh q 1) m1 (g .middle)) (both-is (isFree (view m1) t r)) (g .free))
 
-    own-raised : Raised (rulesBy t) (headOf d r) (weigh (eqb (view m1 (has t) r) (threshold t (view m sizeF r)) and canSupport (kindOf d r)) 1) m2 m3
+    own-raised : Raised (rulesBy t) (headOf d r) (weigh (eqb (view m1 (has t) r) (threshold t (view m sizeF r)) and canSupport (kindOf d r)) 1) (g .middle) m3
     own-raised =
-        subst (λ q. Raised (rulesBy t) q (weigh (eqb (view m1 (has t) r) (threshold t (view m sizeF r)) and canSupport (kindOf d r)) 1) m2 m3) head-is
-        (subst (λ q. Raised (rulesBy t) head (weigh q 1) m2 m3) (supports-is ∙ both-is (canSupport (kindOf d r))) u')
+        subst (λ q. Raised (rulesBy t) q (weigh (eqb (view m1 (has t) r) (threshold t (view m sizeF r)) and canSupport (kindOf d r)) 1) (g .middle) m3) head-is
+        (subst (λ q. Raised (rulesBy t) (view m1 headF r) (weigh q 1) (g .middle) m3) (supports-is ∙ both-is (canSupport (kindOf d r))) (g .own))
 
-    yes : ltb kind 2 ≡ true → T (eqb (view m1 (has t) r) (threshold t (view m sizeF r)) and canSupport (kindOf d r))
-    yes j = subst T (supports-is ∙ both-is _) (of-true _ j)
+    counts-is : x ≡ eqb (view m1 (has t) r) (threshold t (view m sizeF r)) and canSupport (kindOf d r)
+    counts-is = e .1 ∙ supports-is ∙ both-is _
+
+    yes : x ≡ true → T (eqb (view m1 (has t) r) (threshold t (view m sizeF r)) and canSupport (kindOf d r))
+    yes j = subst T counts-is (of-true _ j)
 
     -- before the walk, after it, and without one
-    pub decide-walk : (u : ℕ) → t ≡ u → ltb kind 2 ≡ true → T (canSupport (kindOf d r)) × T (reached (view m3) u r) × Open d m3 (decidedFor (view m3)) (notifiedBelow d (view m3) u r 0)
-    decide-walk u f j = (
-      and-right _ _ (yes j),
-      subst (λ z. T (reached (view m3) z r)) f (own-reached d m m1 m2 m3 t r lo hi k (c .invariant) (c .lacks) (c .raised) free-raised own-raised (yes j)),
-      subst (λ z. Open d m3 (decidedFor (view m3)) (notifiedBelow d (view m3) z r 0)) f
-          (own-open d m m1 m2 m3 t r lo hi k (c .invariant) (c .lacks) (c .raised) free-raised own-raised (yes j)),
-    )
+    pub propagate-walk : (u : ℕ) → t ≡ u → x ≡ true → (WellFormed d × (r < d .rules) × (2 ≤ u) × (u < tagCount) × T (canSupport (kindOf d r)))
+        × ((T (reached (view m3) u r) × Open d m3 (decidedFor (view m3)) (notifiedBelow d (view m3) u r 0)) × ((r < fieldSize) × (memorySize ≤ length m3)))
+    propagate-walk u f j =
+        let o = own-open d m m1 (g .middle) m3 t r lo hi k (c .invariant) (c .lacks) (c .raised) free-raised own-raised (yes j) in (
+          (p .0 .0, k, omega (arith, lo, f), omega (arith, hi, f), and-right _ _ (yes j)),
+          (
+            (
+              subst (λ z. T (reached (view m3) z r)) f (own-reached d m m1 (g .middle) m3 t r lo hi k (c .invariant) (c .lacks) (c .raised) free-raised own-raised (yes j)),
+              subst (λ z. Open d m3 (decidedFor (view m3)) (notifiedBelow d (view m3) z r 0)) f o,
+            ),
+            (p .1 .0, o .room),
+          ),
+        )
 
-    pub decide-notified : (n : List ℕ) → ltb kind 2 ≡ true → Unchanged m3 n × Open d n (decidedFor (view n)) (notifies d (view n)) → Unchanged m1 n × Invariant d n
-    decide-notified n j o = own-notified d m m1 m2 m3 t r lo hi k (c .invariant) (c .lacks) (c .raised) free-raised own-raised (yes j) n (o .0) (o .1)
+    pub propagate-notified : (n : List ℕ) → x ≡ true → Unchanged m3 n × Open d n (decidedFor (view n)) (notifies d (view n)) → Unchanged m1 n × Invariant d n
+    propagate-notified n j o = own-notified d m m1 (g .middle) m3 t r lo hi k (c .invariant) (c .lacks) (c .raised) free-raised own-raised (yes j) n (o .0) (o .1)
 
-    pub decide-end : ltb kind 2 ≡ false → Unchanged m1 m3 × Invariant d m3
-    decide-end j =
-        own-done d m m1 m2 m3 t r lo hi k (c .invariant) (c .lacks) (c .raised) free-raised own-raised
-        (λ v. of-false _ j (subst T (sym (supports-is ∙ both-is _)) v))
+    pub propagate-end : x ≡ false → Unchanged m1 m3 × Invariant d m3
+    propagate-end j =
+        own-done d m m1 (g .middle) m3 t r lo hi k (c .invariant) (c .lacks) (c .raised) free-raised own-raised
+        (λ v. of-false _ j (subst T (sym counts-is) v))

@@ -8,7 +8,7 @@ use Rattle.memory.specs.Fields.{has, sizeF}
 use Rattle.memory.specs.Memory.{view}
 use Rattle.memory.specs.Indexing.{Started}
 use Rattle.memory.proofs.deciding.Deciding.{firing-words, not-firing-words, waiting-words}
-use Rattle.memory.proofs.visit.Accepted.{bump-asks, decide-asks, definite-asks, standing-asks, start-decided, start-undecided, visit-decided, visit-undecided}
+use Rattle.memory.proofs.visit.Accepted.{bump-asks, propagate-asks, definite-asks, standing-asks, start-decided, start-undecided, visit-decided, visit-undecided}
 use Rattle.memory.proofs.index.Starting.{first-asks, second-asks, started-next}
 use borrow.Author.Needs.{needs}
 use Rattle.memory.proofs.prepare.start_rule.Statement.{statement}
@@ -39,20 +39,20 @@ standing-requires c κs =
     let start = at-visit-definite .before .before .before .before in
     standing-asks _ _ _ _ _ (second-asks _ _ _ (start .pre .0) (start .pre .1) (start .pre .2) (at-visit-definite .visit-definite .ensures)) _ (at-bump .bump .ensures)
 
-decide-requires : tie.Need-decide-requires
-decide-requires c κs =
+propagate-requires : tie.Need-propagate-requires
+propagate-requires c κs =
     let at-match = c .before .before in let at-standing = at-match .before in let at-bump = at-standing .before .before .before .before in
     let at-visit-definite = at-bump .before .before .before .before in let start = at-visit-definite .before .before .before .before in
     let asks = second-asks _ _ _ (start .pre .0) (start .pre .1) (start .pre .2) (at-visit-definite .visit-definite .ensures) in
-    decide-asks _ _ _ _ _ asks _ (at-bump .bump .ensures) 2 refl (omega arith)
+    propagate-asks _ _ _ _ _ asks _ (at-bump .bump .ensures) 2 refl (omega arith)
     (start-decided _ _ _ _ asks _ (at-bump .bump .ensures) (firing-words (view (at-bump .bump .last .0)) (start .args .r) (found-firing (at-standing .standing .result) (at-standing .standing .ensures) (at-match .match .keys1))))
 
 returns : tie.Need-returns
 returns c =
-    let at-decide = c .before .before in let at-bump = at-decide .before .before .before .before .before .before .before .before in
+    let at-propagate = c .before .before in let at-bump = at-propagate .before .before .before .before .before .before .before .before in
     let at-visit-definite = at-bump .before .before .before .before in let start = at-visit-definite .before .before .before .before in let pre = start .pre in
     started-next _ _ _ (pre .1) (at-visit-definite .visit-definite .ensures)
-    (visit-decided _ _ _ _ _ (second-asks _ _ _ (pre .0) (pre .1) (pre .2) (at-visit-definite .visit-definite .ensures)) _ (at-bump .bump .ensures) _ (at-decide .decide .ensures))
+    (visit-decided _ _ _ _ _ (second-asks _ _ _ (pre .0) (pre .1) (pre .2) (at-visit-definite .visit-definite .ensures)) _ (at-bump .bump .ensures) _ (at-propagate .propagate .ensures))
 
 -- a rule that does not fire once it is visited is not decided by it
 undecided : (c : tie.After-standing) → (words c (has 2) (rule c) ≡ words c sizeF (rule c) → ⊥)
@@ -74,5 +74,5 @@ pub start-rule-spec : {M : Type 1} → statement M
 start-rule-spec =
     tie.close
     (tie.spec
-    visit-definite-requires bump-requires standing-requires (λ c. search needs) decide-requires (λ c. search needs) (λ c. search needs) (λ c. search needs)
+    visit-definite-requires bump-requires standing-requires (λ c. search needs) propagate-requires (λ c. search needs) (λ c. search needs) (λ c. search needs)
     returns (λ c. search needs) returns-2 (λ c. search needs) returns-3)

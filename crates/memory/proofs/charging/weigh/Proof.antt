@@ -1,8 +1,8 @@
--- `memory::inference::weigh` meets its contract. Assumes nothing.
+-- `memory::charging::weigh` meets its contract. Assumes nothing.
 use native.Mathlib.Omega.{arith}
 use Rattle.logic.specs.Tests.{weigh}
-use Rattle.memory.proofs.inference.weigh.Statement.{statement}
-use Rattle.memory.proofs.inference.weigh.Tie as tie
+use Rattle.memory.proofs.charging.weigh.Statement.{statement}
+use Rattle.memory.proofs.charging.weigh.Tie as tie
 
 returns : tie.Need-returns
 unfolding weigh

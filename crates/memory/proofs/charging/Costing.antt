@@ -24,11 +24,11 @@ use Rattle.table.specs.Format.{theoryIn}
 use Rattle.table.specs.Refusals.{judgementOf}
 use Rattle.table.proofs.Legal.{legal, limited}
 use Rattle.table.proofs.Sorted.{bodies-apart}
-use Rattle.memory.specs.Layout.{tagCount, fieldSize, usesSize}
+use Rattle.memory.specs.Layout.{tagCount, fieldSize}
 use Rattle.memory.specs.Fields.{has, sizeF, kindF, namingF, usesF}
 use Rattle.memory.specs.Memory.{view, useAt, heldOf, users, usesFrom, virtual, Ready}
-use Rattle.memory.specs.Api.{adds, UsesAt}
-use Rattle.memory.specs.Deciding.{decidedBy, chargeBy}
+use Rattle.memory.specs.Api.{adds, UsesAt, UsesIn, costIn}
+use Rattle.memory.specs.Deciding.{decidedBy, chargeBy, costBy}
 use Rattle.memory.proofs.inference.Counting.{pick-all}
 use Rattle.memory.proofs.inference.Following.{fires-defeasibly, out-defeasibly}
 use Rattle.memory.proofs.index.Kinds.{strict-number}
@@ -66,7 +66,7 @@ sum-upto zero f = refl
 sum-upto (suc n) f = sum-append f (upto n) (n ∷ []) ∙ ap₂ _+_ (sum-upto n f) (add-zero (f n))
 
 -- the sum over places is the sum over what stands there
-pub sum-listed : (n m : ℕ) (g : ℕ → ℕ) (p : ℕ → Bool) (f : ℕ → ℕ) → map g (upto n) ≡ pick (upto m) p
+sum-listed : (n m : ℕ) (g : ℕ → ℕ) (p : ℕ → Bool) (f : ℕ → ℕ) → map g (upto n) ≡ pick (upto m) p
     → total n (λ k. f (g k)) ≡ total m (λ k. weigh (p k) (f k))
 sum-listed n m g p f e = sym (sum-upto n (λ k. f (g k))) ∙ sym (sum-map f g (upto n)) ∙ ap (sumOf f) e ∙ sum-pick m p f
 
@@ -201,7 +201,7 @@ module _ (d : Theory) (m : List ℕ) (ready : Ready d m) (p t : ℕ) (tag : t < 
       no n =
           weigh-false _ _ n ∙ ap₂ _+_ (sym (weigh-false (visits d 1 p r) 1 (λ u. n (and-left _ _ u)))) (sym (weigh-false _ _ (unused r n)))
 
-  pub cost-by : ((r : ℕ) → r < d .rules → T (distinct (bodyOf d r)))
+  cost-by : ((r : ℕ) → r < d .rules → T (distinct (bodyOf d r)))
       → 1 + total (d .rules) (λ r. weigh (member p (bodyOf d r)) (chargeBy (view m) t r)) ≡ costOf d (t / 2) p before after
   cost-by apart = ⊎-elim defeasible definite (at-most 2 t)
     where
@@ -226,21 +226,23 @@ module _ (d : Theory) (m : List ℕ) (ready : Ready d m) (p t : ℕ) (tag : t < 
           total-ext (d .rules) _ _ (λ r l. defeasible-part (two-or-three t h tag) r l (apart r l)) ∙ total-add (d .rules) _ _ in
           added _ _ _ _ _ s v z ∙ sym c
 
--- the cost as the loop over the uses from a first one keeps it
-abbrev pub costSoFar : (ℕ → ℕ) → ℕ → ℕ → ℕ
-costSoFar f first k = 1 + total (k - first) (λ j. f (first + j))
+-- the cost as the loop over the uses keeps it
+module _ (w : ℕ → ℕ → ℕ) (u : ℕ → ℕ) (t first : ℕ) where
+  pub cost-none : 1 ≡ costBy w u t first first
+  unfolding total
+  cost-none = let e : first - first ≡ 0 = omega arith in sym (ap (λ n. 1 + total n (λ j. chargeBy w t (u (first + j)))) e)
 
-pub cost-none : (f : ℕ → ℕ) (first : ℕ) → 1 ≡ costSoFar f first first
-unfolding total
-cost-none f first = let e : first - first ≡ 0 = omega arith in sym (ap (λ n. 1 + total n (λ j. f (first + j))) e)
+  pub cost-next : (k : ℕ) {sum y : ℕ} → first ≤ k → sum ≡ costBy w u t first k → y ≡ chargeBy w t (u k) → sum + y ≡ costBy w u t first (k + 1)
+  cost-next k {sum} {y} h e g =
+      let a : k + 1 - first ≡ k - first + 1 = omega arith in
+      let c : first + (k - first) ≡ k = omega arith in
+      let n : total (k + 1 - first) (λ j. chargeBy w t (u (first + j))) ≡ total (k - first) (λ j. chargeBy w t (u (first + j))) + chargeBy w t (u k) =
+      ap (λ i. total i (λ j. chargeBy w t (u (first + j)))) a ∙ total-next (k - first) (λ j. chargeBy w t (u (first + j)))
+      ∙ ap (λ i. total (k - first) (λ j. chargeBy w t (u (first + j))) + chargeBy w t (u i)) c in
+      omega arith
 
-pub cost-next : (f : ℕ → ℕ) (first k : ℕ) {sum y : ℕ} → first ≤ k → sum ≡ costSoFar f first k → y ≡ f k → sum + y ≡ costSoFar f first (k + 1)
-cost-next f first k {sum} {y} h e g =
-    let a : k + 1 - first ≡ k - first + 1 = omega arith in
-    let c : first + (k - first) ≡ k = omega arith in
-    let n : total (k + 1 - first) (λ j. f (first + j)) ≡ total (k - first) (λ j. f (first + j)) + f k =
-    ap (λ i. total i (λ j. f (first + j))) a ∙ total-next (k - first) (λ j. f (first + j)) ∙ ap (λ i. total (k - first) (λ j. f (first + j)) + f i) c in
-    omega arith
+  pub cost-end : {k end sum : ℕ} → k ≤ end → end ≤ k → sum ≡ costBy w u t first k → sum ≡ costBy w u t first end
+  cost-end a z g = g ∙ ap (costBy w u t first) (le-antisymm a z)
 
 -- a conclusion's cost, by the uses of its literal
 module _ (b : List ℕ) (s : Sizes) (m : List ℕ) (x : ℕ) (accepted : judgementOf b ≡ Accepted s) (ready : Ready (theoryIn b s) m) (small : x < tagCount * (2 * s .atoms)) where
@@ -261,15 +263,11 @@ module _ (b : List ℕ) (s : Sizes) (m : List ℕ) (x : ℕ) (accepted : judgeme
     e : end ≡ view m usesF (x / tagCount)
     e = uses-finish (theoryIn b s) (view m) (useAt m) (ready .invariant .index) in-theory at
 
-    pub uses-within : (first ≤ end) × (end ≤ usesSize)
-    unfolding theoryIn
-    uses-within = let w = ready .invariant .index .within (x / tagCount) literal in (omega (arith, w .0, f, e), omega (arith, w .1, f, e))
-
     listed : map (λ k. useAt m (first + k)) (upto (end - first)) ≡ pick (upto (s .rules)) (λ r. member (x / tagCount) (bodyOf (theoryIn b s) r))
     unfolding theoryIn users
     listed = ap₂ (λ i j. map (λ k. useAt m (i + k)) (upto (j - i))) f e ∙ ready .invariant .index .uses (x / tagCount) literal
 
-    pub rule-used : (k : ℕ) → first ≤ k → k < end → useAt m k < fieldSize
+    rule-used : (k : ℕ) → first ≤ k → k < end → useAt m k < fieldSize
     unfolding theoryIn
     rule-used k h l =
         let r : getD (users (theoryIn b s) (x / tagCount)) (k - first) 0 < s .rules = user-below (theoryIn b s) (x / tagCount) (k - first) (omega (arith, at .finish)) in
@@ -277,12 +275,17 @@ module _ (b : List ℕ) (s : Sizes) (m : List ℕ) (x : ℕ) (accepted : judgeme
         let n : s .rules ≤ fieldSize = few .1 in
         omega arith
 
-    pub cost-all : heldOf m x ≡ false → {k sum : ℕ} → k ≤ end → end ≤ k → sum ≡ costSoFar (λ i. chargeBy (view m) (x % tagCount) (useAt m i)) first k
-        → sum ≡ plainSystem (theoryIn b s) .cost (heldOf m) (adds (heldOf m) x) x
+    pub uses-in : UsesIn m first end
+    unfolding theoryIn
+    uses-in =
+        let w = ready .invariant .index .within (x / tagCount) literal in
+        record { room = ready .invariant .room; order = omega (arith, w .0, f, e); within = omega (arith, w .1, f, e); rules = rule-used }
+
+    -- of a conclusion that is not processed it is the reading's
+    pub cost-processed : heldOf m x ≡ false → costIn m x first end ≡ plainSystem (theoryIn b s) .cost (heldOf m) (adds (heldOf m) x) x
     unfolding systemOf theoryIn
-    cost-all new {k} a z g =
-        g ∙ ap (λ i. costSoFar (λ j. chargeBy (view m) (x % tagCount) (useAt m j)) first i) (le-antisymm a z)
-        ∙ ap (1 +_) (sum-listed (end - first) (s .rules) (λ j. useAt m (first + j)) _ (λ r. chargeBy (view m) (x % tagCount) r) listed)
+    cost-processed new =
+        ap (1 +_) (sum-listed (end - first) (s .rules) (λ j. useAt m (first + j)) _ (λ r. chargeBy (view m) (x % tagCount) r) listed)
         ∙ cost-by (theoryIn b s) m ready (x / tagCount) (x % tagCount) (mod-lt x (omega arith)) (ap (heldOf m) (join-split tagCount x) ∙ new) (λ r _. bodies-apart b s accepted r)
         ∙ ap (λ y. costOf (theoryIn b s) (x % tagCount / 2) (x / tagCount) (taggedBy tagCount (heldOf m)) (taggedBy tagCount (adds (heldOf m) y))) (join-split tagCount x)
 
@@ -298,8 +301,8 @@ module _ (w : ℕ → ℕ → ℕ) (t r : ℕ) where
     unfolding chargeBy
     later = cond-false (ltb t 2) (weigh (eqb (w kindF r) 0) 1) (1 + weigh (decidedBy w t r) (w namingF r)) (λ u. let l : t < 2 = ltb→lt t 2 u in omega arith)
 
-    pub read-decided : {n : ℕ} → T (decidedBy w t r) → n ≡ w namingF r → 1 + n ≡ chargeBy w t r
-    read-decided y e = ap (1 +_) (e ∙ sym (weigh-true (decidedBy w t r) (w namingF r) y)) ∙ sym later
+    pub read-decided : {n : ℕ} → T (decidedBy w t r) → n ≡ 1 + w namingF r → n ≡ chargeBy w t r
+    read-decided y e = e ∙ ap (1 +_) (sym (weigh-true (decidedBy w t r) (w namingF r) y)) ∙ sym later
 
     pub read-undecided : decidedBy w t r ≡ false → 1 ≡ chargeBy w t r
     read-undecided n = ap (1 +_) (sym (weigh-false (decidedBy w t r) (w namingF r) (of-false _ n))) ∙ sym later

@@ -1,0 +1,2 @@
+-- Laws of the cost.
+pub mod Costing
