@@ -16,7 +16,6 @@ use Rattle.memory.specs.Layout.{tagCount, fieldCount, fieldSize, usesSiz
 use Rattle.memory.specs.Fields.{has, sizeF, headF, kindF, namingF, rivalsF, firstF, beatenF, lostF, usesF, strictF, supportF, headedF, factF, provedF, firingF, counteredF, rivalsEnd, countsEnd, rivalsBase, rivalsBy, rulesBy, byRival, byItself, inIndex}
 use Rattle.memory.specs.Memory.{view, useAt, users, Indexed, NeverBothAt, Invariant}
 use Rattle.memory.specs.Api.{Kept, Lacks, Visited}
-use Rattle.memory.specs.Indexing.{rivals}
 use Rattle.memory.specs.Visits.{WellFormed, Grown, Raised, threshold, justReached, reached, allowed, decidedFor, notifies, notifiedBelow, isFree, justReachedByRival, CountedBy, Open, Unchanged, Decided, CountedAtHead, Notified}
 use Rattle.memory.proofs.Views.{below-index, kept-then, past-rule, rest-set, use-set, view-set, view-set-field, view-set-index}
 use Rattle.memory.proofs.visit.Counts.{Turns, counted-of, counts-ext, counts-literal, counts-of, decided-literal, decided-marks, decided-tag, grown-other, reached-same, reached-step, turns-and, turns-no, turns-of, turns-or, turns-yes}
