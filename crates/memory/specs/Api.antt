@@ -21,7 +21,7 @@ pub record UsesAt (d : Theory) (p first end : ℕ) : Type 0 where
   pub begin : first ≡ total p (λ q. length (users d q))
   pub finish : end ≡ first + length (users d p)
 
--- the uses from a first one to an end are in the memory, and each is the number of a rule
+-- the uses from a first one to an end are in the memory, and each is a number that a rule's words can have
 pub record UsesIn (m : List ℕ) (first end : ℕ) : Type 0 where
   pub room : memorySize ≤ length m
   pub order : first ≤ end

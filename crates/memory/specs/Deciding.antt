@@ -1,5 +1,5 @@
--- Document 01, When a conclusion follows, by the words of the memory: each inference rule as a test of a few counts. And its price, by the
--- counts alone (document 02, S-4).
+-- Document 01, When a conclusion follows, by the words of the memory: each inference rule as a test of a few counts. And the
+-- price of a line, by counts alone (document 02, S-4).
 use Prim.Native.Nat.{ℕ, _+_, _-_}
 use mathlib.Core.Bool.{Bool, cond}
 use lib.Dec.{ltb, eqb}

@@ -93,7 +93,7 @@ pub record Decided (d : Theory) (t r : ℕ) (m : List ℕ) : Type 0 where
   pub raised : Raised (has t) r 1 before m
   pub just : T (justReached (view m) t r)
 
--- rule r, which tag t has just decided, is counted at its head: as one that no rival stands in the way of, and, if it can support, as
+-- rule r, which tag t has just decided, is counted at its head: if no rival stands in its way, as such a one, and, if it can support, as
 -- one that fires or is out
 pub record CountedAtHead (t r : ℕ) (m n : List ℕ) : Type 0 where
   pub middle : List ℕ

@@ -8,7 +8,7 @@ use Rattle.memory.specs.Fields.{has, sizeF}
 use Rattle.memory.specs.Memory.{view}
 use Rattle.memory.specs.Indexing.{Started}
 use Rattle.memory.proofs.deciding.Deciding.{firing-words, not-firing-words, waiting-words}
-use Rattle.memory.proofs.visit.Accepted.{bump-asks, propagate-asks, definite-asks, standing-asks, start-decided, start-undecided, visit-decided, visit-undecided}
+use Rattle.memory.proofs.visit.Accepted.{bump-asks, definite-asks, propagate-asks, standing-asks, start-decided, start-undecided, visit-decided, visit-undecided}
 use Rattle.memory.proofs.index.Starting.{first-asks, second-asks, started-next}
 use borrow.Author.Needs.{needs}
 use Rattle.memory.proofs.prepare.start_rule.Statement.{statement}

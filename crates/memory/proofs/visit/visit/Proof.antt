@@ -3,7 +3,7 @@ use native.Mathlib.Omega.{arith}
 use Rattle.standing.proofs.Numbering.{found-firing, found-out, found-waiting}
 use Rattle.memory.specs.Memory.{view}
 use Rattle.memory.proofs.deciding.Deciding.{to-firing, to-out, to-waiting}
-use Rattle.memory.proofs.visit.Accepted.{bump-asks, propagate-asks, decides-asks, definite-asks, visit-decided, visit-undecided}
+use Rattle.memory.proofs.visit.Accepted.{bump-asks, decides-asks, definite-asks, propagate-asks, visit-decided, visit-undecided}
 use borrow.Author.Needs.{needs}
 use Rattle.memory.proofs.visit.visit.Statement.{statement}
 use Rattle.memory.proofs.visit.visit.Tie as tie
