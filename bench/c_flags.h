@@ -4,7 +4,7 @@
 
 #include "flyrules.h"
 
-/* As fly_run of flyrules.h. */
+/* As fly_run of flyrules.h, of a table in the old layout. */
 fly_answer flags_run(const uint8_t *table, size_t table_len, uint32_t budget, uint16_t *log, size_t log_len, uint16_t *scratch,
                      size_t scratch_len);
 

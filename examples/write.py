@@ -1,5 +1,6 @@
 #!/usr/bin/env python3
-"""Writes each example: NAME.table, the file that `./sheet-of` takes, and NAME.txt, what its atoms and rules mean.
+"""Writes each example: NAME.table, the file that `./sheet-of` takes, and NAME.txt, what its atoms and rules mean. One is written in edition two
+as well, with the origins of its rules: NAME.two.
 With --check it writes nothing, and fails unless these files are what it would write: for each other one a line says what differs first
 (a byte of a table, a line of a text, counted from 0), what came and what was wanted.
 
@@ -14,6 +15,7 @@ HERE = os.path.dirname(os.path.abspath(__file__))
 
 STRICT, DEFEASIBLE, DEFEATER = range(3)
 KINDS = ["strict", "defeasible", "defeater"]
+NONE, HOUSE, TOUR, CONSOLE = range(4)
 
 EXAMPLES = {
     "case-1": (
@@ -63,7 +65,7 @@ EXAMPLES = {
         [(1, 0)],
         "Rules 0, 2, 4 and 5 are the tour's, rules 1 and 3 the house's. On bar 7 the house's rule is over the tour's: hold. On bar 8\n"
         "nobody said whose rule is stronger: split. Bar 9 rests on the follow spot and the follow spot on bar 9; nothing proves\n"
-        "either, and nothing refutes either: open.",
+        "either, and nothing refutes either: open. The file house-and-tour.two is the same table in edition two, which says whose each rule is.",
     ),
     "limit-switch": (
         "A limit switch typed as up and as not up (document 02, S-1)",
@@ -85,13 +87,18 @@ EXAMPLES = {
 }
 
 
+# Whose the rules are, of the example that is written in edition two too.
+ORIGINS = {"house-and-tour": [TOUR, HOUSE, TOUR, HOUSE, TOUR, TOUR]}
+
+
 def literal(n):
     return 2 * n if n >= 0 else 2 * ~n + 1
 
 
-def words(atoms, facts, rules, pairs):
+def words(atoms, facts, rules, pairs, origins=None):
     entries = [(r, q) for r, (_, body, _) in enumerate(rules) for q in sorted(map(literal, body))]
-    left = [0 for _ in facts] + [k for k, _, _ in rules] + [r for r, _ in entries] + [t for t, _ in sorted(pairs)]
+    kinds = [k + 4 * origin for (k, _, _), origin in zip(rules, origins or [NONE] * len(rules))]
+    left = [0 for _ in facts] + kinds + [r for r, _ in entries] + [t for t, _ in sorted(pairs)]
     right = sorted(map(literal, facts)) + [literal(h) for _, _, h in rules] + [q for _, q in entries] + [s for _, s in sorted(pairs)]
     return [len(atoms), len(facts), len(rules), len(entries), len(pairs)] + left + right
 
@@ -116,6 +123,9 @@ def files():
     """The name and the content of each file."""
     for name, (title, atoms, facts, rules, pairs, why) in EXAMPLES.items():
         yield name + ".table", b"".join(w.to_bytes(2, "little") for w in words(atoms, facts, rules, pairs))
+        if name in ORIGINS:
+            two = words(atoms, facts, rules, pairs, ORIGINS[name])
+            yield name + ".two", b"\2" + b"".join(w.to_bytes(2, "little") for w in two)
         yield name + ".txt", text(title, atoms, facts, rules, pairs, why).encode()
 
 

@@ -4,16 +4,23 @@
  *
  *     gcc -std=c11 -O2 -Iinclude examples/console/loop.c target/staticlib/libconsole.a -o target/loop
  *
- * The table. A file of at most FLY_MAX_BYTES bytes (docs/FORMAT.md): five 16-bit little-endian sizes, A atoms, F facts, N rules,
- * B antecedent entries and P pairs, and two arrays of F+N+B+P words. The first word, table[0] + 256 * table[1], is A. A caller that
- * reads a file into a buffer gives it FLY_MAX_BYTES + 1 bytes, so that a file that is too long is refused and not cut.
+ * The table. A file in one of two editions (docs/FORMAT.md). The old layout, FLY_OLD, has at most FLY_MAX_BYTES bytes: five 16-bit
+ * little-endian sizes, A atoms, F facts, N rules, B antecedent entries and P pairs, and two arrays of F+N+B+P words. The first word,
+ * table[0] + 256 * table[1], is A. Edition two, FLY_TWO, has an added byte 2 in front, so that every place is one byte further and the
+ * longest file has FLY_MAX_TWO bytes; and a rule's left word is its kind and 4 times its origin (fly_origin). A caller that reads a file
+ * into a buffer gives it FLY_MAX_TWO + 1 bytes, so that a file that is too long is refused and not cut.
+ *
+ * The edition. Every call but fly_sheet, which reads the old layout, is told the edition of its table by a number, one of fly_edition. Any
+ * other number is refused with FLY_TRUNCATED, whatever the table is. What is concluded and what it costs do not depend on the edition, nor
+ * on the origins. fly_convert writes a table in the other edition.
  *
  * A line. The number 4q + tag: tag FLY_TAG(line) of literal FLY_LITERAL(line). Literal 2a says that atom a holds, literal 2a + 1 that it
  * does not: FLY_ATOM(line) is a, and FLY_OPPOSITE(line) is 1 where the line is about "it does not hold". The tags are in fly_tag.
  *
  * Buffers. Each may hold anything before a call. The scratch has FLY_SCRATCH words, for every table. The log has FLY_LOG words, for
- * every table, or 4A, for a table of A atoms. A sheet's buffer has FLY_SHEET bytes. Longer ones serve as well; words and bytes past
- * what is used are left alone. A length is a count of elements: of words for log and scratch, of bytes for a table.
+ * every table, or 4A, for a table of A atoms. A sheet's buffer has FLY_SHEET bytes, a converter's output FLY_MAX_TWO, for every table, or
+ * as many as the new file. Longer ones serve as well; words and bytes past what is used are left alone. A length is a count of elements: of
+ * words for log and scratch, of bytes for a table and an output.
  *
  * A short log, of fewer than 4A words, serves too if it has a word for each line that the run writes under its budget; else the call is
  * refused with FLY_SHORT_LOG. That is known at the end of the run alone, so the run is made in memory on the stack, and its lines are
@@ -30,8 +37,8 @@
  *
  * Threads and stack. The functions keep no state between calls, allocate nothing, and call nothing of the C library but memcpy and
  * memset. Any number of threads may call them, each with its own buffers; a table, and the log of fly_stands, is only read and may be
- * shared. A run takes at most FLY_RUN_STACK bytes of stack, one with a short log FLY_SHORT_LOG_STACK, a sheet FLY_SHEET_STACK, and
- * fly_stands FLY_STANDS_STACK.
+ * shared. A run takes at most FLY_RUN_STACK bytes of stack, one with a short log FLY_SHORT_LOG_STACK, a sheet FLY_SHEET_STACK,
+ * fly_stands FLY_STANDS_STACK, and fly_convert FLY_CONVERT_STACK.
  *
  * The budget. A run spends at most its budget, and takes time in proportion to what it spends (docs/PERFORMANCE.md), after judging the
  * table, which takes time in proportion to the table. With a budget below A+F+N+B+P nothing is written. 5A+F+N+3B+3P finishes, and
@@ -49,13 +56,14 @@
 extern "C" {
 #endif
 
-/* the limits of a table: sizes, and bytes, 10 + 4(F+N+B+P) */
+/* the limits of a table: sizes, and bytes, 10 + 4(F+N+B+P), and one more in edition two */
 #define FLY_MAX_ATOMS 512
 #define FLY_MAX_FACTS 1024
 #define FLY_MAX_RULES 1024
 #define FLY_MAX_ENTRIES 4096
 #define FLY_MAX_PAIRS 2048
 #define FLY_MAX_BYTES 32778
+#define FLY_MAX_TWO 32779
 
 #define FLY_SCRATCH 32768   /* words of scratch */
 #define FLY_LOG 2048        /* words of log, 4 for each of FLY_MAX_ATOMS */
@@ -67,12 +75,27 @@ extern "C" {
 #define FLY_SHORT_LOG_STACK 81920
 #define FLY_SHEET_STACK 98304
 #define FLY_STANDS_STACK 12288
+#define FLY_CONVERT_STACK 8192
 
 /* a line, taken apart */
 #define FLY_LITERAL(line) ((line) / 4u)
 #define FLY_TAG(line) ((line) % 4u)
 #define FLY_ATOM(line) ((line) / 8u)
 #define FLY_OPPOSITE(line) ((line) / 4u % 2u)
+
+/* the editions of a table */
+enum fly_edition {
+    FLY_OLD = 1, /* the old layout */
+    FLY_TWO = 2  /* a byte 2, and then the old layout, in which a rule's left word is kind + 4 * origin */
+};
+
+/* whose rule it is, in edition two: a left word divided by 4 */
+enum fly_origin {
+    FLY_NONE = 0,
+    FLY_HOUSE = 1,
+    FLY_TOUR = 2,
+    FLY_CONSOLE = 3
+};
 
 enum fly_tag {
     FLY_DEFINITELY = 0,     /* +Δ: it is a fact, or follows by strict rules alone */
@@ -88,17 +111,19 @@ enum fly_stand {
     FLY_WAITING = 2 /* neither */
 };
 
-/* Why a call is refused. The lowest number that applies is given; fly_stands gives a table's before that of a rule number. */
+/* Why a call is refused. The lowest number that applies is given; fly_stands gives a table's before that of a rule number. What is said of
+ * bytes is of those after the first in edition two. */
 enum fly_refusal {
-    FLY_TRUNCATED = 1,     /* the table has fewer than 10 bytes */
+    FLY_TRUNCATED = 1,     /* the table has fewer than 10 bytes; edition two: no first byte, or another than 2; a number of no edition */
     FLY_TOO_LARGE = 2,     /* one of its five sizes is above its limit */
     FLY_WRONG_LENGTH = 3,  /* it does not have 10 + 4(F+N+B+P) bytes */
-    FLY_BAD_KIND = 4,      /* a fact's left word is not 0, or a rule's kind is above 2 */
+    FLY_BAD_KIND = 4,      /* a fact's left word is not 0, or a rule's is above 2; edition two: its kind is above 2, or its origin above 3 */
     FLY_OUT_OF_RANGE = 5,  /* a literal is not below 2A, or a rule number not below N */
     FLY_UNSORTED = 6,      /* facts, entries or pairs do not rise strictly */
     FLY_CYCLIC = 7,        /* the pairs lead from some rule back to itself */
     FLY_SHORT_SCRATCH = 8, /* the scratch has fewer than FLY_SCRATCH words */
-    FLY_SHORT_LOG = 9      /* the run writes more lines than the log has words */
+    FLY_SHORT_LOG = 9,     /* the run writes more lines than the log has words; fly_convert: the new file has more bytes than the output */
+    FLY_HAS_ORIGIN = 10    /* fly_convert: a rule has an origin, for which the old layout has no place */
 };
 
 /* refused: 0, or the number of the refusal; then the other four are 0, and log and scratch are as they were. Else finished is 1 if
@@ -110,10 +135,10 @@ typedef struct {
 
 /* Runs a table under a budget. After an accepted call the log's first `lines` words are the lines, the words past them are as they
  * were, the scratch's first FLY_SCRATCH words are 0 and the words past them are as they were. */
-fly_answer fly_run(const uint8_t *table, size_t table_len, uint32_t budget, uint16_t *log, size_t log_len, uint16_t *scratch,
-                   size_t scratch_len);
+fly_answer fly_run(const uint8_t *table, size_t table_len, uint32_t edition, uint32_t budget, uint16_t *log, size_t log_len,
+                   uint16_t *scratch, size_t scratch_len);
 
-/* Prints the sheet of a table, as README says: returns its number of bytes; the rest of out is 0. A table that is refused has a sheet
+/* Prints the sheet of a table in the old layout, as README says: returns its number of bytes; the rest of out is 0. A table that is refused has a sheet
  * too: the line `refused` and its number. Log and scratch of its run are on the stack. */
 uint32_t fly_sheet(const uint8_t *table, size_t table_len, uint8_t out[FLY_SHEET]);
 
@@ -124,7 +149,18 @@ typedef struct {
 
 /* Says how rule number `rule` of a table stands by the words of a log. A table that is refused is refused as by a run, and then a rule
  * number not below N with FLY_OUT_OF_RANGE. Nothing is written. */
-fly_standing fly_stands(const uint8_t *table, size_t table_len, uint32_t rule, const uint16_t *log, size_t log_len);
+fly_standing fly_stands(const uint8_t *table, size_t table_len, uint32_t edition, uint32_t rule, const uint16_t *log, size_t log_len);
+
+/* refused: 0, or the number of the refusal; then bytes is 0, and the output is as it was. Else bytes is the byte count of the new file. */
+typedef struct {
+    uint32_t refused, bytes;
+} fly_written;
+
+/* Writes a table in the other edition: one in the old layout in edition two, with origin 0, one byte longer; one in edition two in the old
+ * layout, one byte shorter. The new file says the same, and is the only one of its edition that does. A table that is refused is refused as by
+ * a run; then an output that is shorter than the new file with FLY_SHORT_LOG; then, on the way back, a rule with an origin with
+ * FLY_HAS_ORIGIN. Bytes of the output past the new file are as they were. */
+fly_written fly_convert(const uint8_t *table, size_t table_len, uint32_t edition, uint8_t *out, size_t out_len);
 
 #ifdef __cplusplus
 }

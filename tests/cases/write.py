@@ -1,9 +1,9 @@
 #!/usr/bin/env python3
-"""Writes the cases made by hand into crates/cases/data: made.bin, bodies.bin and longest.bin.
-With --check it writes nothing, and fails unless the three files are what it would write.
+"""Writes the cases made by hand into crates/cases/data: made.bin, told.bin, bodies.bin, readers.bin, longest.bin and conversions.bin.
+With --check it writes nothing, and fails unless the files are what it would write.
 
 A table is written as words, where | parts the sizes A F N B P, the left array and the right array. Each array has the facts,
-then the rules, the entries and the pairs.
+then the rules, the entries and the pairs. A number with ; after it is a byte, as the 2 before a table of edition two.
 """
 import os
 import struct
@@ -11,8 +11,13 @@ import sys
 
 DATA = os.path.join(os.path.dirname(os.path.abspath(__file__)), '..', '..', 'crates', 'cases', 'data')
 
-# Buffers that are longer than any run needs.
-LOG, SCRATCH = 2051, 32773
+# Buffers that are longer than any run or conversion needs.
+LOG, SCRATCH, OUTPUT = 2051, 32773, 50000
+
+# The editions, and what stands before the layout in each.
+OLD, TWO = 1, 2
+MARK = '2; '
+BEFORE = {OLD: '', TWO: MARK}
 
 CASE_1 = '2 1 2 1 1 | 0 1 1 0 0 | 0 2 3 0 1'
 EMPTY = '0 0 0 0 0'
@@ -20,10 +25,11 @@ ATOMS_512 = '512 0 0 0 0'
 CIRCLE = '1 0 1 0 1 | 1 0 | 0 0'
 LOOP = '1 0 1 1 0 | 1 0 | 0 0'
 
-# The arrays of large tables. Facts 0, 1, 2, ..; rules of every kind with heads below 8; entries, 8 for each of the first rules; pairs,
-# in which each of the first rules is over the 4 rules after it.
+# The arrays of large tables. Facts 0, 1, 2, ..; rules of every kind with heads below 8, and the same of every origin; entries, 8 for each
+# of the first rules; pairs, in which each of the first rules is over the 4 rules after it.
 FACTS = [(0, k) for k in range(1024)]
 RULES = [(k % 3, k % 8) for k in range(1024)]
+ORIGINS = [(k % 3 + 4 * (k % 4), k % 8) for k in range(1024)]
 ENTRIES = [(k // 8, k % 8) for k in range(4096)]
 PAIRS = [(k // 4, k // 4 + 1 + k % 4) for k in range(2048)]
 
@@ -31,6 +37,10 @@ PAIRS = [(k // 4, k // 4 + 1 + k % 4) for k in range(2048)]
 def large(sizes, places):
     """A table of these sizes, with these places of the left array and the right array."""
     return ' '.join(map(str, [sizes, *(left for left, _ in places), *(right for _, right in places)]))
+
+
+AT_LIMITS = large('512 1024 1024 4096 2048', FACTS + RULES + ENTRIES + PAIRS)
+AT_LIMITS_ORIGINS = MARK + large('512 1024 1024 4096 2048', FACTS + ORIGINS + ENTRIES + PAIRS)
 
 
 # What a run gives: refused, finished, lines, worked, spent, log.
@@ -66,7 +76,7 @@ JUDGED = [
     ('1,025 rules', '4 0 1025 0 0', refused(2)),
     ('4,097 entries', '4 0 1024 4097 0', refused(2)),
     ('2,049 pairs', '4 0 1024 0 2049', refused(2)),
-    ('every size at its limit', large('512 1024 1024 4096 2048', FACTS + RULES + ENTRIES + PAIRS), STOPPED),
+    ('every size at its limit', AT_LIMITS, STOPPED),
     # 2 comes before 3: the five sizes with no arrays.
     ('1,024 facts, not there', '1 1024 0 0 0', refused(3)),
     ('1,025 facts, not there', '1 1025 0 0 0', refused(2)),
@@ -149,9 +159,78 @@ RUNS = [
     ('a budget below the size', CASE_1, 6, LOG, SCRATCH, STOPPED),
 ]
 
+# A rule's left word, the kind and the origin that it is read as, and the refusal, or 0, in the old layout and in edition two.
+LEFTS = [
+    (0, 0, 0, 0, 0), (1, 1, 0, 0, 0), (2, 2, 0, 0, 0), (3, 2, 0, 4, 4),
+    (4, 0, 1, 4, 0), (5, 1, 1, 4, 0), (6, 2, 1, 4, 0), (7, 2, 1, 4, 4),
+    (8, 0, 2, 4, 0), (9, 1, 2, 4, 0), (10, 2, 2, 4, 0), (11, 2, 2, 4, 4),
+    (12, 0, 3, 4, 0), (13, 1, 3, 4, 0), (14, 2, 3, 4, 0), (15, 2, 3, 4, 4),
+    (16, 0, 3, 4, 4), (17, 1, 3, 4, 4), (18, 2, 3, 4, 4), (65535, 2, 3, 4, 4),
+]
+
+# What case 1 gives where rule 0 is of each kind.
+CASE_1_BY_KIND = [
+    (0, 1, 8, 8, 18, '0 5 13 2 8 7 10 15'),
+    CASE_1_FINISHED,
+    (0, 1, 8, 8, 17, '0 5 9 13 2 7 11 15'),
+]
+
+# Case 1, with rules of the house and of the tour.
+CASE_1_ORIGINS = MARK + '2 1 2 1 1 | 0 5 9 0 0 | 0 2 3 0 1'
+
+# Rules 3 and 4 have entries and pairs, and no rule has an origin.
+RULE_4 = '1 0 5 2 2 | 1 1 1 1 1 3 4 3 4 | 0 1 0 1 0 0 1 0 1'
+RULE_4_FINISHED = 0, 1, 4, 4, 18, '1 5 7 3'
+
+# What it is, the table, the edition that the call is told, and what a run gives with budget 100. A fifth word says how many bytes of the
+# table there are.
+TOLD = [
+    ('case 1 with origins', CASE_1_ORIGINS, TWO, CASE_1_FINISHED),
+    ('and both of the console', MARK + '2 1 2 1 1 | 0 13 13 0 0 | 0 2 3 0 1', TWO, CASE_1_FINISHED),
+    ('every size at its limit, with origins', AT_LIMITS_ORIGINS, TWO, STOPPED),
+    # 1: the first byte.
+    ('no bytes', '', TWO, refused(1)),
+    ('a first byte 0', '0; ' + CASE_1, TWO, refused(1)),
+    ('a first byte 1', '1; ' + CASE_1, TWO, refused(1)),
+    ('a first byte 3', '3; ' + CASE_1, TWO, refused(1)),
+    ('a first byte 255', '255; ' + CASE_1, TWO, refused(1)),
+    ('a first byte 3, and no sizes', '3;', TWO, refused(1)),
+    # One edition, told as the other.
+    ('the five sizes, all 0, told as edition two', EMPTY, TWO, refused(1)),
+    ('a loop, told as edition two', LOOP, TWO, refused(1)),
+    ('case 1, which has a 2 in the first place, told as edition two', CASE_1, TWO, refused(3)),
+    ('two atoms in the old layout', '2 0 0 0 0', OLD, (0, 1, 8, 8, 10, '1 5 9 13 3 7 11 15')),
+    ('and told as edition two', '2 0 0 0 0', TWO, refused(1)),
+    ('no atoms in edition two, told as the old layout', MARK + EMPTY, OLD, refused(3)),
+    ('a loop in edition two, told as the old layout', MARK + LOOP, OLD, refused(3)),
+    ('case 1 in edition two, told as the old layout', MARK + CASE_1, OLD, refused(2)),
+    ('and with origins', CASE_1_ORIGINS, OLD, refused(2)),
+    ('a second 2 before it', MARK + MARK + CASE_1, TWO, refused(2)),
+    # 4: the left words of facts, entries and pairs have no origin.
+    ('a fact with left 1', MARK + '1 1 0 0 0 | 1 | 0', TWO, refused(4)),
+    ('a fact with left 4', MARK + '1 1 0 0 0 | 4 | 0', TWO, refused(4)),
+    ('a fact with left 65,535', MARK + '1 1 0 0 0 | 65535 | 0', TWO, refused(4)),
+    ('a fact with left 4 in the old layout', '1 1 0 0 0 | 4 | 0', OLD, refused(4)),
+    ('entries and pairs of rules 3 and 4', MARK + RULE_4, TWO, RULE_4_FINISHED),
+    ('and in the old layout', RULE_4, OLD, RULE_4_FINISHED),
+    # The lowest number is given.
+    ('a first byte 3, and 513 atoms', '3; 513 0 0 0 0', TWO, refused(1)),
+    ('513 atoms, and a byte past the sizes', MARK + '513 0 0 0 0', TWO, refused(2), 12),
+    ('an origin above 3, and a byte short', MARK + '1 0 1 0 0 | 16 | 0', TWO, refused(3), 14),
+    ('an origin above 3, and a byte past it', MARK + '1 0 1 0 0 | 16 | 0', TWO, refused(3), 16),
+    ('an origin above 3, and a stranger', MARK + '1 1 1 0 0 | 0 16 | 2 0', TWO, refused(4)),
+    ('an origin above 3, and facts that fall', MARK + '1 2 1 0 0 | 0 0 16 | 1 0 0', TWO, refused(4)),
+    ('an origin above 3, and a circle', MARK + '1 0 1 0 1 | 16 0 | 0 0', TWO, refused(4)),
+    ('an origin, and a stranger', MARK + '1 1 1 0 0 | 0 13 | 2 0', TWO, refused(5)),
+    ('an origin, a stranger, and facts that fall', MARK + '1 2 1 0 0 | 0 0 13 | 2 1 0', TWO, refused(5)),
+    ('an origin, and facts that fall', MARK + '1 2 1 0 0 | 0 0 13 | 1 0 0', TWO, refused(6)),
+    ('an origin, facts that fall, and a circle', MARK + '1 2 1 0 1 | 0 0 13 0 | 1 0 0 0', TWO, refused(6)),
+    ('an origin, and a circle', MARK + '1 0 1 0 1 | 13 0 | 0 0', TWO, refused(7)),
+]
+
 MIDDLE = '200 0 3 2 0 | 1 1 1 1 1 | 0 0 0 5 300'
 
-# What it is, the table, the rule and its body.
+# What it is, the table, the rule and its body, which is the same in edition two.
 BODIES = [
     ('rule 0 of case 1', CASE_1, 0, '0'),
     ('rule 1 of case 1', CASE_1, 1, ''),
@@ -162,41 +241,174 @@ BODIES = [
     ('the last of three', MIDDLE, 2, ''),
 ]
 
+# What it is, the table, the edition that the call is told, the rule and its body.
+TOLD_BODIES = [
+    ('rule 0 of case 1 with origins', CASE_1_ORIGINS, TWO, 0, '0'),
+    ('rule 1, which has none', CASE_1_ORIGINS, TWO, 1, ''),
+    ('a rule with an origin, between two others', MARK + '200 0 3 2 0 | 0 14 9 1 1 | 0 0 0 5 300', TWO, 1, '5 300'),
+    ('the last rule that has entries, at the limits', AT_LIMITS_ORIGINS, TWO, 511, '0 1 2 3 4 5 6 7'),
+    ('a first byte 1', '1; ' + CASE_1, TWO, 0, ''),
+    ('a 2 alone', MARK, TWO, 0, ''),
+    ('no bytes', '', TWO, 0, ''),
+    ('an origin above 3', MARK + '1 0 1 1 0 | 16 0 | 0 0', TWO, 0, ''),
+    ('a kind of 3', MARK + '1 0 1 1 0 | 7 0 | 0 0', TWO, 0, ''),
+    ('an origin in the old layout', '1 0 1 1 0 | 4 0 | 0 0', OLD, 0, ''),
+    ('case 1, told as edition two', CASE_1, TWO, 0, ''),
+    ('case 1 in edition two, told as the old layout', MARK + CASE_1, OLD, 0, ''),
+]
+
+# A rule with each left word, and the head 100 + k for rule k. The table is refused.
+EVERY_LEFT = large('100 0 20 0 0', [(left, 100 + k) for k, (left, *_) in enumerate(LEFTS)])
+
+# Two facts, three rules, two entries and two pairs.
+PLACES = '3 2 3 2 2 | 0 0 5 10 12 0 2 1 2 | 1 3 2 5 4 3 1 0 1'
+NOTHING = '0 | 0 0 0 | 0 0 | 0 0'
+
+# What it is, the table, the edition that the call is told, an index, and what is read there: the fact, the kind, the origin and the head
+# of the rule, the entry, and the pair. A sixth word says how many bytes of the table there are.
+READERS = [
+    ('the first of each section', MARK + PLACES, TWO, 0, '1 | 1 1 2 | 0 3 | 1 0'),
+    ('the second', MARK + PLACES, TWO, 1, '3 | 2 2 5 | 2 1 | 2 1'),
+    ('the third, of rules alone', MARK + PLACES, TWO, 2, '0 | 0 3 4 | 0 0 | 0 0'),
+    ('past the last rule', MARK + PLACES, TWO, 3, NOTHING),
+    ('far past it', MARK + PLACES, TWO, 4294967295, NOTHING),
+    ('the first of each section in the old layout', PLACES, OLD, 0, '1 | 1 1 2 | 0 3 | 1 0'),
+    ('the third, of rules alone', PLACES, OLD, 2, '0 | 0 3 4 | 0 0 | 0 0'),
+    ('past the last rule', PLACES, OLD, 3, NOTHING),
+    ('the last rule at the limits, with an origin', AT_LIMITS_ORIGINS, TWO, 1023, '1023 | 0 3 7 | 127 7 | 255 259'),
+    # A table that is refused is read all the same.
+    ('a first byte 3', '3; ' + PLACES, TWO, 1, '3 | 2 2 5 | 2 1 | 2 1'),
+    ('a byte past the table', MARK + PLACES, TWO, 1, '3 | 2 2 5 | 2 1 | 2 1', 48),
+    ('a byte short', MARK + PLACES, TWO, 1, '3 | 2 2 5 | 2 1 | 2 0', 46),
+    ('the left array alone', MARK + PLACES, TWO, 1, '0 | 2 2 0 | 2 0 | 2 0', 29),
+    ('the sizes alone', MARK + PLACES, TWO, 0, NOTHING, 11),
+    ('a 2 alone', MARK, TWO, 0, NOTHING),
+    ('no bytes', '', TWO, 0, NOTHING),
+    ('no bytes in the old layout', '', OLD, 0, NOTHING),
+]
+
 # The longest sheet: 1,024 defeasible rules, with heads 4, 5, 6, .., that rest on literals 0 to 3, which nothing supports.
 LONGEST = large('512 0 1024 4096 0', [(1, 4 + k % 1020) for k in range(1024)] + [(k // 4, k % 4) for k in range(4096)])
 LONGEST_SHEET = ['atoms 512', *(f'{atom} split' for atom in range(512)), 'spent 11776 of 15872']
 
+# What it is, the table, its edition, and how many bytes the new file has. Each is converted into outputs that are shorter and longer.
+FITTED = [
+    ('case 1', CASE_1, OLD, 31),
+    ('case 1, back', MARK + CASE_1, TWO, 30),
+    ('the five sizes, all 0', EMPTY, OLD, 11),
+    ('the five sizes, all 0, back', MARK + EMPTY, TWO, 10),
+    ('every size at its limit', AT_LIMITS, OLD, 32779),
+    ('every size at its limit, back', MARK + AT_LIMITS, TWO, 32778),
+]
+
+# What it is, the table, the edition that the call is told, how many bytes of output are lent, and the refusal, or 0.
+CONVERSIONS = [
+    ('a rule of each kind', '1 0 3 0 0 | 0 1 2 | 0 1 0', OLD, OUTPUT, 0),
+    ('a rule of each kind, back', MARK + '1 0 3 0 0 | 0 1 2 | 0 1 0', TWO, OUTPUT, 0),
+    ('entries and pairs of rules 3 and 4', RULE_4, OLD, OUTPUT, 0),
+    ('entries and pairs of rules 3 and 4, back', MARK + RULE_4, TWO, OUTPUT, 0),
+    # 1: the first byte.
+    ('no bytes', '', TWO, OUTPUT, 1),
+    ('a first byte 0', '0; ' + CASE_1, TWO, OUTPUT, 1),
+    ('a first byte 1', '1; ' + CASE_1, TWO, OUTPUT, 1),
+    ('a first byte 3', '3; ' + CASE_1, TWO, OUTPUT, 1),
+    ('a first byte 255', '255; ' + CASE_1, TWO, OUTPUT, 1),
+    ('a first byte 1, and no output', '1; ' + CASE_1, TWO, 0, 1),
+    # One edition, told as the other.
+    ('case 1, told as edition two', CASE_1, TWO, OUTPUT, 3),
+    ('case 1 in edition two, told as the old layout', MARK + CASE_1, OLD, OUTPUT, 2),
+    ('two atoms', '2 0 0 0 0', OLD, OUTPUT, 0),
+    ('two atoms, told as edition two', '2 0 0 0 0', TWO, OUTPUT, 1),
+    # 10: an origin on the way back, in any rule.
+    ('of the first of three', MARK + '1 0 3 0 0 | 4 1 2 | 0 1 0', TWO, OUTPUT, 10),
+    ('of the second', MARK + '1 0 3 0 0 | 0 9 2 | 0 1 0', TWO, OUTPUT, 10),
+    ('of the third', MARK + '1 0 3 0 0 | 0 1 14 | 0 1 0', TWO, OUTPUT, 10),
+    ('of the last of 1,024', MARK + large('4 0 1024 0 0', RULES[:-1] + [(12, 0)]), TWO, OUTPUT, 10),
+    ('of three rules in four, at the limits', AT_LIMITS_ORIGINS, TWO, OUTPUT, 10),
+    ('of both rules of case 1', CASE_1_ORIGINS, TWO, OUTPUT, 10),
+    ('and the output as long as the new file', CASE_1_ORIGINS, TWO, 30, 10),
+    ('and a byte short: 9 comes before 10', CASE_1_ORIGINS, TWO, 29, 9),
+    ('and no output', CASE_1_ORIGINS, TWO, 0, 9),
+    # 4 to 7 come before 9 and 10.
+    ('an origin above 3', MARK + '1 0 2 0 0 | 13 16 | 0 0', TWO, OUTPUT, 4),
+    ('an origin, and a stranger', MARK + '1 1 1 0 0 | 0 13 | 2 0', TWO, OUTPUT, 5),
+    ('an origin, and facts that fall', MARK + '1 2 1 0 0 | 0 0 13 | 1 0 0', TWO, OUTPUT, 6),
+    ('an origin, and a circle', MARK + '1 0 1 0 1 | 13 0 | 0 0', TWO, OUTPUT, 7),
+    ('and no output', MARK + '1 0 1 0 1 | 13 0 | 0 0', TWO, 0, 7),
+]
+
 
 def words(text):
-    return b''.join(struct.pack('<H', int(word)) for word in text.replace('|', ' ').split())
+    """The bytes of a text: two for each word, one for a number with ; after it."""
+    parts = text.replace('|', ' ').split()
+    return b''.join(bytes([int(part[:-1])]) if part.endswith(';') else struct.pack('<H', int(part)) for part in parts)
+
+
+def cut(table, length=None):
+    """The bytes of a table, all of them or so many, where a byte past its words is 0."""
+    table = words(table)
+    return table if length is None else table.ljust(length, b'\0')[:length]
 
 
 def field(content):
     return struct.pack('<I', len(content)) + content
 
 
-def number(n):
-    return field(struct.pack('<I', n))
+def numbers(*values):
+    return b''.join(field(struct.pack('<I', n)) for n in values)
 
 
-def run(table, budget, log, scratch, gives):
-    *numbers, lines = gives
-    return field(table) + b''.join(map(number, [budget, log, scratch, *numbers])) + field(words(lines))
+def run(budget, log, scratch, gives):
+    """The fields of a run, after the table and the edition."""
+    *counts, lines = gives
+    return numbers(budget, log, scratch, *counts) + field(words(lines))
 
 
-def judged(name, table, gives, length=None):
-    table = words(table)
-    if length is not None:
-        table = table.ljust(length, b'\0')[:length]
-    return run(table, 0, LOG, SCRATCH, gives)
+def old_runs():
+    """The rows of JUDGED and RUNS: the bytes of the table, and the fields of the run."""
+    for _, table, gives, *length in JUDGED:
+        yield cut(table, *length), run(0, LOG, SCRATCH, gives)
+    for _, table, *row in RUNS:
+        yield words(table), run(*row)
+
+
+def told_runs():
+    """The same in edition two, then each left word of rule 0 of case 1 in both editions, then the rows of TOLD."""
+    for table, fields in old_runs():
+        yield words(MARK) + table, TWO, fields
+    for left, kind, _, *refusals in LEFTS:
+        for edition, refusal in zip((OLD, TWO), refusals):
+            gives = refused(refusal) if refusal else CASE_1_BY_KIND[kind]
+            yield words(BEFORE[edition] + f'2 1 2 1 1 | 0 {left} 1 0 0 | 0 2 3 0 1'), edition, run(100, LOG, SCRATCH, gives)
+    for _, table, edition, gives, *length in TOLD:
+        yield cut(table, *length), edition, run(100, LOG, SCRATCH, gives)
 
 
 def made():
-    return b''.join([judged(*row) for row in JUDGED] + [run(words(table), *row) for _, table, *row in RUNS])
+    return b''.join(field(table) + fields for table, fields in old_runs())
+
+
+def told():
+    return b''.join(field(table) + numbers(edition) + fields for table, edition, fields in told_runs())
 
 
 def bodies():
-    return b''.join(field(words(table)) + number(rule) + field(words(body)) for _, table, rule, body in BODIES)
+    rows = [(BEFORE[edition] + table, edition, rule, body) for edition in (OLD, TWO) for _, table, rule, body in BODIES]
+    rows += [row for _, *row in TOLD_BODIES]
+    return b''.join(field(words(table)) + numbers(edition, rule) + field(words(body)) for table, edition, rule, body in rows)
+
+
+def readers():
+    rows = [
+        (BEFORE[edition] + EVERY_LEFT, edition, k, f'0 | {kind} {origin} {100 + k} | 0 0 | 0 0')
+        for edition in (OLD, TWO)
+        for k, (_, kind, origin, *_) in enumerate(LEFTS)
+    ]
+    rows += [row for _, *row in READERS]
+    return b''.join(
+        field(cut(table, *length)) + numbers(edition, index, *map(int, read.replace('|', ' ').split()))
+        for table, edition, index, read, *length in rows
+    )
 
 
 def longest():
@@ -204,11 +416,52 @@ def longest():
     return field(words(LONGEST)) + field(''.join(line + '\n' for line in LONGEST_SHEET).encode())
 
 
+def conversion(table, edition, output, refusal):
+    """A record in the layout of editions.bin."""
+    other = table[1:] if edition == TWO else words(MARK) + table
+    return field(table) + numbers(edition, output, refusal) + field(b'' if refusal else other)
+
+
+def conversion_rows():
+    """The rows of FITTED, what JUDGED refuses, each left word of a rule, and the rows of CONVERSIONS: table, edition, output, refusal."""
+    for _, table, edition, new in FITTED:
+        for output in 0, 1, new - 2, new - 1, new, new + 1, OUTPUT:
+            yield words(table), edition, output, 9 if output < new else 0
+    for _, table, (refusal, *_), *length in JUDGED:
+        if refusal:
+            for edition in OLD, TWO:
+                for output in 0, OUTPUT:
+                    yield words(BEFORE[edition]) + cut(table, *length), edition, output, refusal
+    for left, _, origin, *refusals in LEFTS:
+        for edition, refusal in zip((OLD, TWO), refusals):
+            table = words(BEFORE[edition] + f'1 0 1 0 0 | {left} | 0')
+            yield table, edition, 0, refusal or 9
+            yield table, edition, OUTPUT, refusal or (10 if origin else 0)
+    for _, table, *row in CONVERSIONS:
+        yield words(table), *row
+
+
+def conversions():
+    return b''.join(conversion(*row) for row in conversion_rows())
+
+
+# What writes each file.
+FILES = {
+    'made.bin': made,
+    'told.bin': told,
+    'bodies.bin': bodies,
+    'readers.bin': readers,
+    'longest.bin': longest,
+    'conversions.bin': conversions,
+}
+
+
 def main():
     check = sys.argv[1:] == ['--check']
     if sys.argv[1:] and not check:
         sys.exit(__doc__)
-    for name, content in ('made.bin', made()), ('bodies.bin', bodies()), ('longest.bin', longest()):
+    for name, write in FILES.items():
+        content = write()
         path = os.path.join(DATA, name)
         if not check:
             with open(path, 'wb') as file:

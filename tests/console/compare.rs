@@ -8,13 +8,16 @@
 //! For every call of fly_run: the five numbers of the answer, every word of the log's and the scratch's buffers (which reach past the
 //! lent part on both sides and hold noise before the call), and the table. For every call of fly_sheet: the length, the text, zeros
 //! past it, the bytes around the buffer, and the table. For every call of fly_stands: the two numbers, the log with the words around it,
-//! and the table. The lengths lent are around the limits: of the log the lines that the run writes under its budget, and 4A. By the lines
-//! of a run no rule may both fire and be out. The first mismatch is printed and ends the program with status 1: where the table comes from
-//! and what differs first (records, words, bytes and lines are counted from 0). Each of the answers must also have come often enough, and
-//! so must lines in a log below 4A words (a short log), and short logs that a larger budget outgrows, unless fewer CALLS (of fly_run) than
-//! the default are asked for.
+//! and the table. For every call of fly_convert: the two numbers, every byte of the output's buffer (likewise with noise, and past the
+//! lent part), and the table. The lengths lent are around the limits: of the log the lines that the run writes under its budget, and 4A;
+//! of the output the byte count of the new file. By the lines of a run no rule may both fire and be out. A table with origins runs like
+//! the same without them, in both editions, and a table that is converted there and back is the table again. The first mismatch is printed
+//! and ends the program with status 1: where the table comes from and what differs first (records, words, bytes and lines are counted
+//! from 0). What is printed at the end is how often each answer came, in the old layout and in edition two, among them lines in a log
+//! below 4A words (a short log), and short logs that a larger budget outgrows. Each must have come often enough, unless fewer CALLS (of
+//! fly_run) than the default are asked for.
 //!
-//! --vectors DIR: base.bin, sheets-S1.bin and short-logs.bin there, against both engines, before the CALLS.
+//! --vectors DIR: base.bin, sheets-S1.bin, short-logs.bin and editions.bin there, against both engines, before the CALLS.
 //! --mutant K: the test's own test, of fewer CALLS. A deliberate fault in the slow engine or in what is expected of the buffers, which
 //! must end in a mismatch.
 //! --mutants: the number and the fault of each, a line for each K.
@@ -22,16 +25,17 @@
 mod slow;
 mod tables;
 
-use slow::{mutant, Answer, Run, Standing, FIRING, OUT, SCRATCH, WAITING};
+use slow::{mutant, Answer, Run, Standing, Written, FIRING, OLD, OUT, SCRATCH, TWO, WAITING};
 use std::fmt::Debug;
 use std::ops::Range;
 use std::sync::atomic::Ordering::Relaxed;
-use tables::{Draft, Rng, LIMITS};
+use tables::{Draft, Rng, Table, LIMITS};
 
 extern "C" {
     fn fly_run(
         table: *const u8,
         table_len: usize,
+        edition: u32,
         budget: u32,
         log: *mut u16,
         log_len: usize,
@@ -39,16 +43,22 @@ extern "C" {
         scratch_len: usize,
     ) -> Answer;
     fn fly_sheet(table: *const u8, table_len: usize, out: *mut u8) -> u32;
-    fn fly_stands(table: *const u8, table_len: usize, rule: u32, log: *const u16, log_len: usize) -> Standing;
+    fn fly_stands(table: *const u8, table_len: usize, edition: u32, rule: u32, log: *const u16, log_len: usize) -> Standing;
+    fn fly_convert(table: *const u8, table_len: usize, edition: u32, out: *mut u8, out_len: usize) -> Written;
 }
 
 const SEED: u64 = 20_260;
-const CALLS: u64 = 600_000;
-const MUTANT_CALLS: u64 = 9_000; // the mutant that is caught last needs 8,706
+const CALLS: u64 = 780_000;
+const MUTANT_CALLS: u64 = 9_000; // the mutant that is caught last needs 8,830
 const SHEET: usize = 5_041;
-const GUARD: usize = 32; // the most words of a buffer before the lent part, and the least past it
+const GUARD: usize = 32; // the most words or bytes of a buffer before the lent part, and the least past it
 const LOG_MOST: usize = 4_096; // the longest log lent
 const SCRATCH_MOST: usize = SCRATCH + 1_024; // the longest scratch lent
+const OUT_MOST: usize = SCRATCH_MOST; // the longest output lent
+
+/// Numbers of no edition, some of them with the lowest bits of one.
+const NO_EDITION: &[u32] =
+    &[0, 3, 4, 5, 6, 255, 256, 257, 258, 513, 65_535, 65_536, 65_537, 65_538, (1 << 24) + 2, 1 << 31, (1 << 31) + 1, u32::MAX];
 
 /// The deliberate faults, from 1. `slow::mutant` asks for them by number.
 const MUTANTS: &[&str] = &[
@@ -97,7 +107,77 @@ const MUTANTS: &[&str] = &[
     "a pair charged to its weaker rule only",
     "pairs counted for the first 1,023 rules alone",
     "a settled rule charged the pairs of the whole table",
+    "an origin of 4 is legal",
+    "in edition two a left word above 2 is a wrong kind",
+    "a rule works by its whole left word",
+    "in edition two every left word up to 14 is legal",
+    "in edition two a fact's left word is read by its remainder by 4",
+    "an origin in the old layout is passed over",
+    "the first byte of edition two is not looked at",
+    "the first byte of edition two counts towards the ten",
+    "an unknown edition is the old layout",
+    "the edition cut to 8 bits",
+    "the edition cut to 16 bits",
+    "a standing reads every table in the old layout",
+    "a house rule is stronger than a tour rule",
+    "10 before 9",
+    "9 before the table's refusal",
+    "9 by the byte count of the table",
+    "origins are dropped on the way back",
+    "every rule of a new file is the house's",
+    "a conversion looks for no circle",
+    "a conversion answers with the byte count of the table",
+    "a conversion answers with a byte count beside 9",
+    "the byte past the new file becomes 0",
+    "a refused conversion writes the first byte",
 ];
+
+/// How often each answer came for tables of one edition.
+#[derive(Default)]
+struct Counts {
+    refused: [u64; 10],
+    stopped: u64,
+    finished: u64,
+    short: u64,          // accepted, with lines in a log below 4A words
+    stood: [u64; 3],     // by how the rule stands, if it has antecedents
+    bodiless: u64,       // rules that have none
+    not_stood: [u64; 8], // by the number of the table's refusal
+    strange: u64,        // rule numbers not below N, of tables that are accepted
+    converted: u64,
+    not_converted: [u64; 11], // by the number of the refusal
+}
+
+/// What was counted, how often it came, and how often it must have come.
+type Count = (String, u64, u64);
+
+fn counted(what: &str, came: u64, least: u64) -> Count {
+    (what.to_string(), came, least)
+}
+
+impl Counts {
+    /// The answers that there are in both editions; `least` is for those that are no refusals.
+    fn list(&self, edition: &str, least: u64) -> Vec<Count> {
+        let refusals = |of: &str, numbers: &[usize], came: &[u64]| -> Vec<Count> {
+            numbers.iter().map(|&k| counted(&format!("{edition}{of}refused {k}:"), came[k], 1_000)).collect()
+        };
+        let answers = |answers: &[(&str, u64)], least: u64| -> Vec<Count> {
+            answers.iter().map(|&(what, came)| counted(&format!("{edition}{what}"), came, least)).collect()
+        };
+        let [firing, out, waiting] = self.stood;
+        [
+            refusals("", &[1, 2, 3, 4, 5, 6, 7, 8], &self.refused),
+            answers(&[("refused 9:", self.refused[9])], 10_000),
+            answers(&[("stopped", self.stopped), ("finished", self.finished), ("short logs accepted", self.short)], least),
+            refusals("standings ", &[1, 2, 3, 4, 5, 6, 7], &self.not_stood),
+            answers(&[("rule numbers refused", self.strange)], 10_000),
+            answers(&[("firing", firing), ("out", out), ("waiting", waiting)], least),
+            answers(&[("firing without antecedents", self.bodiless)], least),
+            refusals("conversions ", &[1, 2, 3, 4, 5, 6, 7, 9], &self.not_converted),
+            answers(&[("converted", self.converted)], 20_000),
+        ]
+        .concat()
+    }
+}
 
 struct Bench {
     rng: Rng,
@@ -112,36 +192,39 @@ struct Bench {
     place: String,   // where the tables come from
     last: u64,       // the number of calls to end at
     calls: u64,
-    refused: [u64; 10],
-    stopped: u64,
-    finished: u64,
-    short: u64,    // accepted, with lines in a log below 4A words
-    outgrown: u64, // lengths of log that held the lines under one budget, and were too short under a larger one
     sheets: u64,
     standings: u64,
-    stood: [u64; 3],     // by how the rule stands, if it has antecedents
-    bodiless: u64,       // rules that have none
-    not_stood: [u64; 8], // by the number of the table's refusal
-    strange: u64,        // rule numbers not below N, of tables that are accepted
+    conversions: u64,
+    counts: [Counts; 3], // of no edition, of the old layout, of edition two
+    outgrown: u64,       // lengths of log that held the lines under one budget, and were too short under a larger one
     coherent: u64,       // logs of runs by which no rule both fires and is out
+    alike: u64,          // tables with origins that ran like the same without them
+    returned: u64,       // tables that came back from the other edition
 }
 
 /// The k-th of the five sizes, or 0 if the table ends before it.
-fn size(t: &[u8], k: usize) -> usize {
-    t.get(2 * k..2 * k + 2).map_or(0, |w| u16::from_le_bytes([w[0], w[1]]) as usize)
+fn size(t: &Table, k: usize) -> usize {
+    t.layout().get(2 * k..2 * k + 2).map_or(0, |w| u16::from_le_bytes([w[0], w[1]]) as usize)
 }
 
-fn atoms(t: &[u8]) -> usize {
+fn atoms(t: &Table) -> usize {
     size(t, 0)
 }
 
-fn rules(t: &[u8]) -> u32 {
+fn rules(t: &Table) -> u32 {
     size(t, 2) as u32
 }
 
 /// The words of a full log, 4A, or nearly all that can be lent.
-fn full_log(t: &[u8]) -> usize {
+fn full_log(t: &Table) -> usize {
     (4 * atoms(t)).min(LOG_MOST - 64)
+}
+
+/// The byte count of the table in the other edition, or nearly all that can be lent.
+fn new_len(t: &Table) -> usize {
+    let n = t.bytes.len();
+    let new = if t.edition == TWO { less_one(n) } else { n + 1 };
+    new.min(OUT_MOST - 64)
 }
 
 /// What the table is refused by, 1 to 7, or 0; 8 and 9 are about buffers.
@@ -188,6 +271,11 @@ fn standings_differ(came: &Standing, wanted: &Standing) -> Option<String> {
     numbers_differ(&["refused", "standing"], &numbers(came), &numbers(wanted))
 }
 
+fn written_differs(came: &Written, wanted: &Written) -> Option<String> {
+    let numbers = |w: &Written| [w.refused, w.bytes];
+    numbers_differ(&["refused", "bytes"], &numbers(came), &numbers(wanted))
+}
+
 /// The first element that differs, by its place from `start`.
 fn elements_differ<T: PartialEq + Debug>(what: &str, came: &[T], wanted: &[T], start: usize) -> Option<String> {
     if came == wanted {
@@ -220,18 +308,23 @@ impl Bench {
             place: String::new(),
             last: u64::MAX,
             calls: 0,
-            refused: [0; 10],
-            stopped: 0,
-            finished: 0,
-            short: 0,
-            outgrown: 0,
             sheets: 0,
             standings: 0,
-            stood: [0; 3],
-            bodiless: 0,
-            not_stood: [0; 8],
-            strange: 0,
+            conversions: 0,
+            counts: Default::default(),
+            outgrown: 0,
             coherent: 0,
+            alike: 0,
+            returned: 0,
+        }
+    }
+
+    fn counts(&mut self, t: &Table) -> &mut Counts {
+        let [none, old, two] = &mut self.counts;
+        match t.edition {
+            OLD => old,
+            TWO => two,
+            _ => none,
         }
     }
 
@@ -257,6 +350,14 @@ impl Bench {
         let end = at + t.len();
         let same = self.table[at..end] == *t && self.table[..at].iter().chain(&self.table[end..]).all(|&b| b == 0xA5);
         (!same).then(|| "the table is altered".to_string())
+    }
+
+    /// Noise in a buffer of bytes. Returns the part of it that is lent.
+    fn lend_output(&mut self, out_len: usize) -> Range<usize> {
+        let (at, k) = (self.rng.within(1, GUARD), self.rng.next() as u8);
+        self.out.clear();
+        self.out.extend(self.base[..out_len + 2 * GUARD].iter().map(|&b| b as u8 ^ k));
+        at..at + out_len
     }
 
     /// Noise in both buffers. Returns the parts of them that are lent.
@@ -296,41 +397,42 @@ impl Bench {
         }
     }
 
-    fn count(&mut self, answer: &Answer, short: bool) {
+    fn count(&mut self, t: &Table, answer: &Answer, short: bool) {
+        let counts = self.counts(t);
         match (answer.refused, answer.finished) {
-            (0, 0) => self.stopped += 1,
-            (0, _) => self.finished += 1,
-            (number, _) => self.refused[number as usize] += 1,
+            (0, 0) => counts.stopped += 1,
+            (0, _) => counts.finished += 1,
+            (number, _) => counts.refused[number as usize] += 1,
         }
-        self.short += (answer.lines != 0 && short) as u64;
+        counts.short += (answer.lines != 0 && short) as u64;
     }
 
     /// One call of fly_run and all that is compared for it; the run is the slow engine's.
-    fn call(&mut self, t: &[u8], budget: u32, run: &Run, log_len: usize, scratch_len: usize) -> Answer {
+    fn call(&mut self, t: &Table, budget: u32, run: &Run, log_len: usize, scratch_len: usize) -> Answer {
         if self.calls == self.last {
             self.end();
         }
-        let (expected, short) = (slow::call(t, run, log_len, scratch_len), log_len < full_log(t));
-        let at = self.lend_table(t);
+        let (expected, short) = (slow::call(&t.bytes, t.edition, run, log_len, scratch_len), log_len < full_log(t));
+        let at = self.lend_table(&t.bytes);
         let (log_lent, scratch_lent) = self.lend_buffers(log_len, scratch_len);
-        let (log, scratch) = (&mut self.log[log_lent.clone()], &mut self.scratch[scratch_lent.clone()]);
-        let lent = &self.table[at..at + t.len()];
-        let answer =
-            unsafe { fly_run(lent.as_ptr(), lent.len(), budget, log.as_mut_ptr(), log_len, scratch.as_mut_ptr(), scratch_len) };
+        let (log, scratch) = (self.log[log_lent.clone()].as_mut_ptr(), self.scratch[scratch_lent.clone()].as_mut_ptr());
+        let lent = &self.table[at..at + t.bytes.len()];
+        let answer = unsafe { fly_run(lent.as_ptr(), lent.len(), t.edition, budget, log, log_len, scratch, scratch_len) };
         self.calls += 1;
         self.lines.clear();
-        self.lines.extend_from_slice(&log[..(answer.lines as usize).min(log_len)]);
+        self.lines.extend_from_slice(&self.log[log_lent.clone()][..(answer.lines as usize).min(log_len)]);
         self.expect(&expected, &run.1, short, &log_lent, &scratch_lent);
         let difference = answers_differ(&answer, &expected)
             .or_else(|| elements_differ("log word", &self.log, &self.log_expected, log_lent.start))
             .or_else(|| elements_differ("scratch word", &self.scratch, &self.scratch_expected, scratch_lent.start))
-            .or_else(|| self.table_altered(at, t));
+            .or_else(|| self.table_altered(at, &t.bytes));
         if let Some(what) = difference {
-            let call = format!("call {} budget {budget} log_len {log_len} scratch_len {scratch_len}", self.calls);
+            let lengths = format!("log_len {log_len} scratch_len {scratch_len}");
+            let call = format!("call {} edition {} budget {budget} {lengths}", self.calls, t.edition);
             let logs = format!("archive log {:?}\nslow    log {:?}", self.lines, run.1);
-            self.mismatch(&what, t, format!("{call}\narchive {answer:?}\nslow    {expected:?}\n{logs}"));
+            self.mismatch(&what, &t.bytes, format!("{call}\narchive {answer:?}\nslow    {expected:?}\n{logs}"));
         }
-        self.count(&expected, short);
+        self.count(t, &expected, short);
         answer
     }
 
@@ -338,22 +440,19 @@ impl Bench {
     fn sheet(&mut self, t: &[u8]) {
         let text = slow::sheet(t);
         let at = self.lend_table(t);
-        let out_at = self.rng.within(1, GUARD);
-        let k = self.rng.next() as u8;
-        self.out.clear();
-        self.out.extend(self.base[..SHEET + 2 * GUARD].iter().map(|&b| b as u8 ^ k));
+        let out = self.lend_output(SHEET);
         let mut expected = self.out.clone();
         if !mutant(19) {
-            expected[out_at..out_at + SHEET].fill(0);
+            expected[out.clone()].fill(0);
         }
-        expected[out_at..out_at + text.len()].copy_from_slice(text.as_bytes());
+        expected[out.clone()][..text.len()].copy_from_slice(text.as_bytes());
         let lent = &self.table[at..at + t.len()];
-        let length = unsafe { fly_sheet(lent.as_ptr(), lent.len(), self.out[out_at..].as_mut_ptr()) } as usize;
+        let length = unsafe { fly_sheet(lent.as_ptr(), lent.len(), self.out[out.clone()].as_mut_ptr()) } as usize;
         self.sheets += 1;
-        let shown = String::from_utf8_lossy(&self.out[out_at..out_at + length.min(SHEET)]);
+        let shown = String::from_utf8_lossy(&self.out[out.clone()][..length.min(SHEET)]);
         let difference = lines_differ(&shown, &text)
             .or_else(|| (length != text.len()).then(|| format!("length came {length} wanted {}", text.len())))
-            .or_else(|| elements_differ("byte", &self.out, &expected, out_at))
+            .or_else(|| elements_differ("byte", &self.out, &expected, out.start))
             .or_else(|| self.table_altered(at, t));
         if let Some(what) = difference {
             let call = format!("sheet {} after call {}", self.sheets, self.calls);
@@ -369,32 +468,105 @@ impl Bench {
     }
 
     /// One call of fly_stands and all that is compared for it; `judged` is the slow engine's refusal of the table, or 0.
-    fn stands(&mut self, t: &[u8], judged: u32, rule: u32, log: &[u16]) {
-        let (body, expected) = (slow::antecedents(t, rule), slow::stands(t, judged, rule, log));
-        let at = self.lend_table(t);
+    fn stands(&mut self, t: &Table, judged: u32, rule: u32, log: &[u16]) -> Standing {
+        let body = slow::antecedents(&t.bytes, t.edition, rule);
+        let expected = slow::stands(&t.bytes, t.edition, judged, rule, log);
+        let at = self.lend_table(&t.bytes);
         let (log_at, words) = self.lend_log(log, &body);
         let before = words.clone();
-        let (lent, read) = (&self.table[at..at + t.len()], &words[log_at..log_at + log.len()]);
-        let standing = unsafe { fly_stands(lent.as_ptr(), lent.len(), rule, read.as_ptr(), read.len()) };
+        let (lent, read) = (&self.table[at..at + t.bytes.len()], &words[log_at..log_at + log.len()]);
+        let standing = unsafe { fly_stands(lent.as_ptr(), lent.len(), t.edition, rule, read.as_ptr(), read.len()) };
         self.standings += 1;
         let difference = standings_differ(&standing, &expected)
             .or_else(|| elements_differ("log word", &words, &before, log_at))
-            .or_else(|| self.table_altered(at, t));
+            .or_else(|| self.table_altered(at, &t.bytes));
         if let Some(what) = difference {
-            let call = format!("standing {} after call {} rule {rule} log_len {}", self.standings, self.calls, log.len());
+            let number = format!("standing {} after call {}", self.standings, self.calls);
+            let call = format!("{number} edition {} rule {rule} log_len {}", t.edition, log.len());
             let numbers = format!("archive {standing:?}\nslow    {expected:?}");
-            self.mismatch(&format!("standing: {what}"), t, format!("{call}\n{numbers}\nlog {log:?}"));
+            self.mismatch(&format!("standing: {what}"), &t.bytes, format!("{call}\n{numbers}\nlog {log:?}"));
         }
+        let counts = self.counts(t);
         match (judged, expected.refused) {
-            (0, 0) if body.is_empty() => self.bodiless += 1,
-            (0, 0) => self.stood[expected.standing as usize] += 1,
-            (0, _) => self.strange += 1,
-            (number, _) => self.not_stood[number as usize] += 1,
+            (0, 0) if body.is_empty() => counts.bodiless += 1,
+            (0, 0) => counts.stood[expected.standing as usize] += 1,
+            (0, _) => counts.strange += 1,
+            (number, _) => counts.not_stood[number as usize] += 1,
+        }
+        standing
+    }
+
+    /// One call of fly_convert and all that is compared for it: "a refusal leaves the output untouched, and bytes past the new file always
+    /// are." Returns the new file, unless it is refused.
+    fn convert(&mut self, t: &Table, out_len: usize) -> Option<Table> {
+        let (expected, file) = slow::convert(&t.bytes, t.edition, out_len);
+        let at = self.lend_table(&t.bytes);
+        let out = self.lend_output(out_len);
+        let mut wanted = self.out.clone();
+        wanted[out.start..out.start + file.len()].copy_from_slice(&file);
+        if mutant(67) && expected.refused == 0 && file.len() < out_len {
+            wanted[out.start + file.len()] = 0;
+        }
+        if mutant(68) && expected.refused != 0 && out_len != 0 {
+            wanted[out.start] = 2;
+        }
+        let lent = &self.table[at..at + t.bytes.len()];
+        let came = unsafe { fly_convert(lent.as_ptr(), lent.len(), t.edition, self.out[out.clone()].as_mut_ptr(), out_len) };
+        self.conversions += 1;
+        let difference = written_differs(&came, &expected)
+            .or_else(|| elements_differ("output byte", &self.out, &wanted, out.start))
+            .or_else(|| self.table_altered(at, &t.bytes));
+        if let Some(what) = difference {
+            let number = format!("conversion {} after call {}", self.conversions, self.calls);
+            let call = format!("{number} edition {} out_len {out_len}", t.edition);
+            let numbers = format!("archive {came:?}\nslow    {expected:?}");
+            let files = format!("archive output {}\nslow    file   {}", hex(&self.out[out]), hex(&file));
+            self.mismatch(&format!("conversion: {what}"), &t.bytes, format!("{call}\n{numbers}\n{files}"));
+        }
+        let counts = self.counts(t);
+        if came.refused != 0 {
+            counts.not_converted[came.refused as usize] += 1;
+            return None;
+        }
+        counts.converted += 1;
+        let edition = if t.edition == OLD { TWO } else { OLD };
+        Some(Table { edition, bytes: self.out[out][..came.bytes as usize].to_vec() })
+    }
+
+    /// A lent length of the output: enough for the new file, or around its byte count.
+    fn out_len(&mut self, t: &Table) -> usize {
+        let new = new_len(t);
+        let (more, less) = (self.rng.within(new, OUT_MOST), self.rng.below(new));
+        if self.rng.chance(1, 32) {
+            more
+        } else {
+            self.rng.pick(&[new, new, new, new + 1, new + 40, less_one(new), less_one(new), new.saturating_sub(2), 0, less])
+        }
+    }
+
+    /// A table in the other edition, by an output of any length; and back, by one that is long enough. "each way giving the unique file"
+    fn there_and_back(&mut self, t: &Table) {
+        let out_len = self.out_len(t);
+        let Some(there) = self.convert(t, out_len) else { return };
+        let out_len = new_len(&there) + self.rng.below(2);
+        let back = self.convert(&there, out_len);
+        if back.as_ref().map(|t| &t.bytes) != Some(&t.bytes) {
+            let files = format!("there {}\nback  {}", hex(&there.bytes), hex(&back.map_or(vec![], |t| t.bytes)));
+            self.mismatch("there and back is another table", &t.bytes, files);
+        }
+        self.returned += 1;
+    }
+
+    /// Every output length around the byte count of the new file.
+    fn output_lengths(&mut self, t: &Table) {
+        let new = new_len(t);
+        for out_len in [0, 1, new.saturating_sub(2), less_one(new), new, new + 1, new + 40, OUT_MOST] {
+            self.convert(t, out_len);
         }
     }
 
     /// A rule number: of a rule, or around N, or one whose lowest bits are those of a rule.
-    fn rule(&mut self, t: &[u8]) -> u32 {
+    fn rule(&mut self, t: &Table) -> u32 {
         let n = rules(t);
         let (below, any) = (self.rng.below(n as usize) as u32, self.rng.next() as u32);
         let high = below + (1 << self.rng.within(16, 31));
@@ -406,13 +578,13 @@ impl Bench {
     }
 
     /// How a rule stands by a log that is made from the archive's lines of the last call.
-    fn stands_by_any(&mut self, t: &[u8], judged: u32, rule: u32) {
-        let log = tables::log(&mut self.rng, atoms(t), &slow::antecedents(t, rule), &self.lines);
+    fn stands_by_any(&mut self, t: &Table, judged: u32, rule: u32) {
+        let log = tables::log(&mut self.rng, atoms(t), &slow::antecedents(&t.bytes, t.edition, rule), &self.lines);
         self.stands(t, judged, rule, &log);
     }
 
     /// Some rules, likewise, and numbers that are no rule's.
-    fn some_stand(&mut self, t: &[u8], judged: u32, count: usize) {
+    fn some_stand(&mut self, t: &Table, judged: u32, count: usize) {
         for _ in 0..count {
             let rule = self.rule(t);
             self.stands_by_any(t, judged, rule);
@@ -420,7 +592,7 @@ impl Bench {
     }
 
     /// Each rule of a legal table, likewise.
-    fn all_stand(&mut self, t: &[u8]) {
+    fn all_stand(&mut self, t: &Table) {
         for rule in 0..rules(t) {
             self.stands_by_any(t, 0, rule);
         }
@@ -428,22 +600,22 @@ impl Bench {
     }
 
     /// "Over the worked lines of any run, firing and out never both hold"; nor do they over the written ones, of the last call here.
-    fn coheres(&mut self, t: &[u8]) {
-        if slow::fires_and_is_out(t, &self.lines) {
-            self.mismatch("a rule fires and is out", t, format!("archive log {:?}", self.lines));
+    fn coheres(&mut self, t: &Table) {
+        if slow::fires_and_is_out(&t.bytes, t.edition, &self.lines) {
+            self.mismatch("a rule fires and is out", &t.bytes, format!("archive log {:?}", self.lines));
         }
         self.coherent += !self.lines.is_empty() as u64;
     }
 
     /// A lent length of the log that is enough for every run of the table.
-    fn full_len(&mut self, t: &[u8]) -> usize {
+    fn full_len(&mut self, t: &Table) -> usize {
         let full = full_log(t);
         let more = full + self.rng.below(64);
         self.rng.pick(&[full, full, full + 1, more, LOG_MOST])
     }
 
     /// A lent length of the log: enough for every run, or around what this run writes and works, and around 4A.
-    fn log_len(&mut self, t: &[u8], answer: &Answer) -> usize {
+    fn log_len(&mut self, t: &Table, answer: &Answer) -> usize {
         if self.rng.chance(1, 2) {
             return self.full_len(t);
         }
@@ -470,32 +642,32 @@ impl Bench {
     }
 
     /// A call with random lengths.
-    fn any(&mut self, t: &[u8], budget: u32) -> Answer {
-        let run = slow::run(t, budget);
+    fn any(&mut self, t: &Table, budget: u32) -> Answer {
+        let run = slow::run(&t.bytes, t.edition, budget);
         let (log_len, scratch_len) = (self.log_len(t, &run.0), self.scratch_len(false));
         self.call(t, budget, &run, log_len, scratch_len)
     }
 
     /// A call whose buffers suffice.
-    fn enough(&mut self, t: &[u8], budget: u32) -> Answer {
+    fn enough(&mut self, t: &Table, budget: u32) -> Answer {
         let (log_len, scratch_len) = (self.full_len(t), self.scratch_len(true));
-        self.call(t, budget, &slow::run(t, budget), log_len, scratch_len)
+        self.call(t, budget, &slow::run(&t.bytes, t.edition, budget), log_len, scratch_len)
     }
 
-    /// Bytes of a legal table.
-    fn legal(&mut self, d: &Draft) -> Vec<u8> {
-        let t = d.bytes();
-        assert_eq!(slow::judge(&t), 0, "the generator made an illegal table: {}", hex(&t));
+    /// A legal table.
+    fn legal(&mut self, d: &Draft, edition: u32) -> Table {
+        let t = d.table(edition);
+        assert_eq!(slow::judge(&t.bytes, edition), 0, "the generator made an illegal table: {}", hex(&t.bytes));
         t
     }
 
     /// Random and extreme budgets for a table that may be illegal.
-    fn budget(&mut self, t: &[u8]) -> u32 {
+    fn budget(&mut self, t: &Table) -> u32 {
         let any = self.rng.next() as u32;
-        if slow::judge(t) != 0 {
+        if slow::judge(&t.bytes, t.edition) != 0 {
             return self.rng.pick(&[0, 1, 50, any, u32::MAX]);
         }
-        let (bound, size) = slow::bound_and_size(t);
+        let (bound, size) = slow::bound_and_size(&t.bytes, t.edition);
         let between = size + self.rng.below((bound - size) as usize + 1) as u32;
         let below = self.rng.below(size as usize + 1) as u32;
         let choice = [0, u32::MAX, any, size, size.saturating_sub(1), bound, bound.saturating_sub(1), bound + 1, below];
@@ -508,11 +680,11 @@ impl Bench {
 
     /// One length of log under rising budgets, until it is too short and from then on. Beside each call another whose log is enough;
     /// each of these logs is a beginning of the next, and some rule stands by it.
-    fn rising(&mut self, t: &[u8], log_len: usize, budgets: impl IntoIterator<Item = u32>) {
+    fn rising(&mut self, t: &Table, log_len: usize, budgets: impl IntoIterator<Item = u32>) {
         let mut before: Vec<u16> = vec![];
         let (mut served, mut outgrown) = (false, false);
         for budget in budgets {
-            let run = slow::run(t, budget);
+            let run = slow::run(&t.bytes, t.edition, budget);
             let scratch_len = self.scratch_len(true);
             let answer = self.call(t, budget, &run, log_len, scratch_len);
             served |= answer.lines != 0;
@@ -521,7 +693,7 @@ impl Bench {
             self.call(t, budget, &run, log_len, scratch_len);
             if !self.lines.starts_with(&before) {
                 let logs = format!("budget {budget}: {before:?} then {:?}", self.lines);
-                self.mismatch("a log is no beginning of the next", t, logs);
+                self.mismatch("a log is no beginning of the next", &t.bytes, logs);
             }
             before.clone_from(&self.lines);
             let rule = self.rule(t);
@@ -532,17 +704,17 @@ impl Bench {
     }
 
     /// All budgets from 0 to past the bound, in a log that just holds the lines of one of them, or lacks a word for that.
-    fn sweep(&mut self, t: &[u8]) {
-        let (bound, size) = slow::bound_and_size(t);
+    fn sweep(&mut self, t: &Table) {
+        let (bound, size) = slow::bound_and_size(&t.bytes, t.edition);
         let held = self.rng.within(size as usize, bound as usize) as u32;
-        let lines = slow::run(t, held).1.len();
+        let lines = slow::run(&t.bytes, t.edition, held).1.len();
         let log_len = self.rng.pick(&[lines, less_one(lines)]);
         self.rising(t, log_len, 0..=bound + 2);
     }
 
     /// Every lent length around its limit, in all combinations.
-    fn lengths(&mut self, t: &[u8], budget: u32) {
-        let run = slow::run(t, budget);
+    fn lengths(&mut self, t: &Table, budget: u32) {
+        let run = slow::run(&t.bytes, t.edition, budget);
         let (lines, worked, full) = (run.0.lines as usize, run.0.worked as usize, full_log(t));
         for log_len in [0, 1, worked, less_one(lines), lines, lines + 1, less_one(full), full, full + 1, full + 40, LOG_MOST] {
             for scratch_len in [0, 1, SCRATCH - 1, SCRATCH, SCRATCH + 1, SCRATCH + 40, SCRATCH_MOST] {
@@ -552,14 +724,14 @@ impl Bench {
     }
 
     /// A large legal table under no budget, the budget that just fits, one less, and some between.
-    fn great(&mut self, t: &[u8], between: usize) {
-        let all = slow::run(t, u32::MAX);
+    fn great(&mut self, t: &Table, between: usize) {
+        let all = slow::run(&t.bytes, t.edition, u32::MAX);
         let (lines, spent) = (all.0.lines as usize, all.0.spent);
         for log_len in [self.full_len(t), lines, less_one(lines), self.log_len(t, &all.0)] {
             let scratch_len = self.scratch_len(false);
             self.call(t, u32::MAX, &all, log_len, scratch_len);
         }
-        let (_, size) = slow::bound_and_size(t);
+        let (_, size) = slow::bound_and_size(&t.bytes, t.edition);
         let mut budgets = vec![spent, spent.saturating_sub(1), size, size.saturating_sub(1)];
         for _ in 0..between {
             budgets.push(self.rng.within(size as usize, spent as usize) as u32);
@@ -568,106 +740,158 @@ impl Bench {
         let log_len = self.rng.within(lines / 2, lines);
         self.rising(t, log_len, budgets);
         self.some_stand(t, 0, 6);
-        self.sheet(t);
+        self.there_and_back(t);
+        self.sheet(&t.bytes);
+    }
+
+    /// "Conclusions and price do not depend on origin": a table with origins, without them, and in the old layout.
+    fn alike(&mut self, d: &Draft) {
+        let plain = d.without_origins();
+        let tables = [self.legal(d, TWO), self.legal(&plain, TWO), self.legal(&plain, OLD)];
+        let budget = self.budget(&tables[0]);
+        let run = slow::run(&tables[0].bytes, TWO, budget);
+        let (log_len, scratch_len) = (self.log_len(&tables[0], &run.0), self.scratch_len(false));
+        let rule = self.rule(&tables[0]);
+        let [with, without, in_old] = tables.each_ref().map(|t| {
+            let run = slow::run(&t.bytes, t.edition, budget);
+            let answer = self.call(t, budget, &run, log_len, scratch_len);
+            let lines = self.lines.clone();
+            (answer, self.stands(t, 0, rule, &lines), lines)
+        });
+        if with != without || with != in_old {
+            let answers = format!("with {with:?}\nwithout {without:?}\nin the old layout {in_old:?}");
+            self.mismatch("origins or the edition make a difference", &tables[0].bytes, answers);
+        }
+        if tables[0].bytes != tables[1].bytes {
+            // "An old reader given the old layout, otherwise legal, with an origin in it says 4"
+            self.gives(&old(tables[0].layout()), budget, log_len, scratch_len, &refusal(4));
+            self.alike += 1;
+        }
     }
 
     /// Random small tables that are legal.
-    fn small_tables(&mut self) {
+    fn small_tables(&mut self, edition: u32) {
         for i in 0..25 {
             let d = tables::small(&mut self.rng);
-            let t = self.legal(&d);
+            let t = self.legal(&d, edition);
             let budget = self.budget(&t);
             self.any(&t, budget);
             if i % 4 == 0 {
-                self.sheet(&t);
+                self.sheet(&t.bytes);
             } else if i % 4 == 1 {
                 self.all_stand(&t);
                 self.some_stand(&t, 0, 2);
+            } else {
+                self.there_and_back(&t);
+            }
+            if i % 12 == 0 {
+                self.alike(&d);
             }
         }
     }
 
     /// Random small tables that are damaged, and bytes that were never a table.
-    fn bad_tables(&mut self) {
+    fn bad_tables(&mut self, edition: u32) {
         for i in 0..45 {
             let d = tables::small(&mut self.rng);
-            let t = tables::damaged(&mut self.rng, d);
+            let t = tables::damaged(&mut self.rng, d, edition);
             let budget = self.budget(&t);
             let answer = self.any(&t, budget);
             if i % 15 == 0 {
-                self.sheet(&t);
-            } else if i % 3 == 0 {
+                self.sheet(&t.bytes);
+            } else if i % 2 == 0 {
                 self.some_stand(&t, of_table(&answer), 1);
+            }
+            if i % 3 != 0 {
+                self.there_and_back(&t);
             }
         }
         for i in 0..8 {
-            let t = tables::noise(&mut self.rng);
+            let t = tables::noise(&mut self.rng, edition);
             let budget = self.budget(&t);
             let answer = self.any(&t, budget);
             if i % 4 == 0 {
-                self.sheet(&t);
+                self.sheet(&t.bytes);
             } else {
                 self.some_stand(&t, of_table(&answer), 1);
+                self.there_and_back(&t);
             }
         }
     }
 
+    /// A table of an edition that there is not.
+    fn no_edition(&mut self, t: &Table) {
+        let any = self.rng.next() as u32;
+        let edition = if self.rng.chance(1, 4) { any } else { self.rng.pick(NO_EDITION) };
+        let t = Table { edition, ..t.clone() };
+        let answer = self.any(&t, any);
+        self.some_stand(&t, of_table(&answer), 1);
+        self.there_and_back(&t);
+    }
+
     /// A draft with faults, under `count` budgets.
-    fn damaged(&mut self, d: &Draft, count: usize) {
+    fn damaged(&mut self, d: &Draft, edition: u32, count: usize) {
         for _ in 0..count {
-            let t = tables::damaged(&mut self.rng, d.clone());
+            let t = tables::damaged(&mut self.rng, d.clone(), edition);
             let budget = self.budget(&t);
             let answer = self.any(&t, budget);
             self.some_stand(&t, of_table(&answer), 1);
+            self.there_and_back(&t);
         }
     }
 
-    /// A random part of about 120 calls, 12 sheets and 80 standings.
+    /// A random part of about 195 calls, 13 sheets, 140 standings and 60 conversions.
     fn round(&mut self, number: u64) {
+        let edition = if number % 4 == 3 { TWO } else { OLD };
         self.place = format!("round {number}");
         let d = tables::small(&mut self.rng);
-        let t = self.legal(&d);
+        let t = self.legal(&d, edition);
         self.sweep(&t);
-        self.small_tables();
-        self.bad_tables();
+        self.small_tables(edition);
+        self.bad_tables(edition);
+        self.no_edition(&t);
         let d = tables::medium(&mut self.rng);
-        let t = self.legal(&d);
+        let t = self.legal(&d, edition);
         for _ in 0..3 {
             let budget = self.budget(&t);
             self.any(&t, budget);
             self.some_stand(&t, 0, 3);
         }
-        self.sheet(&t);
-        self.damaged(&d, 1);
-        if number % 16 == 0 {
+        self.there_and_back(&t);
+        self.sheet(&t.bytes);
+        self.damaged(&d, edition, 1);
+        if number % 17 == 0 {
             let d = tables::large(&mut self.rng);
-            let t = self.legal(&d);
+            let t = self.legal(&d, edition);
             self.great(&t, 1);
-            self.damaged(&d, 3);
+            self.damaged(&d, edition, 3);
         }
     }
 
     /// Calls that do not depend on chance but for the lengths lent.
     fn fixed(&mut self) {
-        self.bytes_of_case_1();
+        self.bytes_of_case_1(&case_1());
         self.lengths_lent();
         self.long_logs();
-        self.byte_counts();
-        self.sizes();
+        self.byte_counts(OLD);
+        self.sizes(OLD);
+        self.bytes_of_case_1(&with_origins(&case_1()));
+        self.byte_counts(TWO);
+        self.sizes(TWO);
         self.two_rules();
         self.big_tables();
         self.circles();
     }
 
-    fn bytes_of_case_1(&mut self) {
-        self.place = "every byte of case 1 at every value".to_string();
-        let case_1 = case_1();
-        for i in 0..case_1.len() {
+    fn bytes_of_case_1(&mut self, case_1: &Table) {
+        self.place = format!("every byte of case 1 in edition {} at every value", case_1.edition);
+        for i in 0..case_1.bytes.len() {
             for value in 0..=255 {
                 let mut t = case_1.clone();
-                t[i] = value;
+                t.bytes[i] = value;
                 let answer = self.any(&t, 30);
                 self.some_stand(&t, of_table(&answer), 1);
+                self.there_and_back(&t);
             }
         }
     }
@@ -680,10 +904,14 @@ impl Bench {
         self.lengths(&case_1, 13);
         self.lengths(&case_1, 0);
         self.lengths(&itself(), u32::MAX);
-        self.lengths(&[0; 10], 0);
-        self.lengths(&tables::sized(0, 512), u32::MAX);
-        self.lengths(&[0; 9], 0);
-        self.lengths(&tables::sized(0, 513), 0);
+        self.lengths(&old(&[0; 10]), 0);
+        self.lengths(&old(&tables::sized(0, 512)), u32::MAX);
+        self.lengths(&old(&[0; 9]), 0);
+        self.lengths(&old(&tables::sized(0, 513)), 0);
+        self.lengths(&with_origins(&case_1), 13);
+        for t in [case_1.clone(), itself(), old(&[0; 10]), old(&tables::sized(0, 512)), old(&[0; 9])] {
+            in_editions(&t).iter().for_each(|t| self.output_lengths(t));
+        }
     }
 
     /// Logs of more words than 16 bits can count, the line that decides at their end.
@@ -706,7 +934,7 @@ impl Bench {
             2 => vec![255; length],
             3 => (0..length).map(|_| self.rng.next() as u8).collect(),
             4 => (0..length).map(|i| if i % 2 == 0 { self.rng.below(3) as u8 } else { 0 }).collect(),
-            5 => case_1().into_iter().chain([0; 10]).take(length).collect(),
+            5 => case_1().bytes.into_iter().chain([0; 10]).take(length).collect(),
             // sizes with the right length, if it is one
             6 => tables::sized(1, length.saturating_sub(10) / 4),
             _ => tables::sized(2, length.saturating_sub(10) / 4),
@@ -715,61 +943,66 @@ impl Bench {
         t
     }
 
-    fn byte_counts(&mut self) {
+    fn byte_counts(&mut self, edition: u32) {
         for length in 0..=40 {
             for kind in 0..8 {
-                self.place = format!("{length} bytes of kind {kind}");
-                let t = self.bytes_of(kind, length);
+                self.place = format!("{length} bytes of kind {kind} in edition {edition}");
+                let t = Table::of(edition, &self.bytes_of(kind, length));
                 self.any(&t, 20);
                 let answer = self.enough(&t, u32::MAX);
                 self.some_stand(&t, answer.refused, 1);
-                self.sheet(&t);
+                self.there_and_back(&t);
+                self.sheet(&t.bytes);
             }
         }
     }
 
     /// Every size at and above its limit, with the length that it asks for and with others.
-    fn sizes(&mut self) {
+    fn sizes(&mut self, edition: u32) {
         for k in 0..5 {
             let limit = LIMITS[k];
             for value in [limit - 1, limit, limit + 1, limit + 2, limit + 256, 2 * limit, 32_768, 65_535] {
-                self.place = format!("size {k} at {value}");
-                self.sized(&tables::sized(k, value));
+                self.place = format!("size {k} at {value} in edition {edition}");
+                self.sized(edition, &tables::sized(k, value));
             }
         }
     }
 
     /// A table with other lengths than the sizes ask for.
-    fn sized(&mut self, whole: &[u8]) {
+    fn sized(&mut self, edition: u32, whole: &[u8]) {
         for length in [whole.len(), whole.len() - 1, whole.len() + 1, whole.len() + 4, 10, 9] {
-            let mut t = whole.to_vec();
-            t.resize(length, 0);
+            let mut layout = whole.to_vec();
+            layout.resize(length, 0);
+            let t = Table::of(edition, &layout);
             let answer = self.any(&t, 10_000);
             self.some_stand(&t, of_table(&answer), 1);
-            self.sheet(&t);
+            self.there_and_back(&t);
+            self.sheet(&t.bytes);
         }
     }
 
     fn two_rules(&mut self) {
         self.place = "all tables of one atom and two rules with at most one pair".to_string();
         for code in 0..4 * 24 * 24 * 3 {
-            let t = self.legal(&two_rules(code));
+            let t = self.legal(&two_rules(code), OLD);
             let budget = self.budget(&t);
             self.enough(&t, u32::MAX);
+            self.enough(&with_origins(&t), u32::MAX);
             self.enough(&t, budget);
             self.all_stand(&t);
+            self.there_and_back(&t);
         }
     }
 
     /// The limits of every size, and past the end of the longest table.
     fn big_tables(&mut self) {
         for shape in 0..tables::BIG_SHAPES {
-            for _ in 0..2 {
-                self.place = format!("a big table of shape {shape}");
+            for edition in [OLD, OLD, TWO] {
+                self.place = format!("a big table of shape {shape} in edition {edition}");
                 let d = tables::big(&mut self.rng, shape);
-                let t = self.legal(&d);
+                let t = self.legal(&d, edition);
                 // shape 2 is the longest table there is
-                assert!(shape != 2 || t.len() == 32_778 && t[..2] == 512u16.to_le_bytes());
+                assert!(shape != 2 || t.layout().len() == 32_778 && t.layout()[..2] == 512u16.to_le_bytes());
                 self.great(&t, 3);
                 self.big_and_bad(&d, &t);
             }
@@ -777,25 +1010,27 @@ impl Bench {
     }
 
     /// A big table of other lengths and with faults.
-    fn big_and_bad(&mut self, d: &Draft, whole: &[u8]) {
-        for length in [whole.len() - 1, whole.len() + 1, whole.len() + 2, 32_778, 32_779, 32_780, 40_000] {
-            let mut t = whole.to_vec();
-            t.resize(length, 0);
+    fn big_and_bad(&mut self, d: &Draft, whole: &Table) {
+        let n = whole.bytes.len();
+        for length in [n - 1, n + 1, n + 2, 32_778, 32_779, 32_780, 40_000] {
+            let mut t = whole.clone();
+            t.bytes.resize(length, 0);
             let answer = self.any(&t, 60_000);
             self.some_stand(&t, of_table(&answer), 1);
-            self.sheet(&t);
+            self.sheet(&t.bytes);
         }
         for _ in 0..10 {
-            let t = tables::damaged(&mut self.rng, d.clone());
+            let t = tables::damaged(&mut self.rng, d.clone(), whole.edition);
             let budget = self.budget(&t);
             let answer = self.any(&t, budget);
             self.some_stand(&t, of_table(&answer), 1);
-            self.sheet(&t);
+            self.there_and_back(&t);
+            self.sheet(&t.bytes);
         }
         for which in 0..tables::FAULTS {
             let mut d = d.clone();
             tables::fault(&mut self.rng, &mut d, which);
-            self.enough(&d.bytes(), 60_000);
+            self.enough(&d.table(whole.edition), 60_000);
         }
     }
 
@@ -810,35 +1045,66 @@ impl Bench {
             (0..1_023).for_each(|i| d.pair(i, i + 1));
             last.into_iter().for_each(|(t, s)| d.pair(t, s));
             d.tidy();
-            let answer = self.enough(&d.bytes(), u32::MAX);
-            self.some_stand(&d.bytes(), answer.refused, 2);
-            self.sheet(&d.bytes());
+            for t in [d.table(OLD), d.table(TWO)] {
+                let answer = self.enough(&t, u32::MAX);
+                self.some_stand(&t, answer.refused, 2);
+                self.there_and_back(&t);
+                self.sheet(&t.bytes);
+            }
         }
     }
 
     /// A call that must give this, against both engines. A mutant is left to the archive to catch.
-    fn gives(&mut self, t: &[u8], budget: u32, log_len: usize, scratch_len: usize, wanted: &Run) {
-        let run = slow::run(t, budget);
-        let came = slow::call(t, &run, log_len, scratch_len);
+    fn gives(&mut self, t: &Table, budget: u32, log_len: usize, scratch_len: usize, wanted: &Run) {
+        let run = slow::run(&t.bytes, t.edition, budget);
+        let came = slow::call(&t.bytes, t.edition, &run, log_len, scratch_len);
         let lines = &run.1[..came.lines as usize];
         let difference =
             answers_differ(&came, &wanted.0).or_else(|| elements_differ("log word", lines, &wanted.1, 0)).filter(|_| mutant(0));
         if let Some(what) = difference {
-            let call = format!("budget {budget} log_len {log_len} scratch_len {scratch_len}");
-            self.mismatch(&format!("slow engine: {what}"), t, format!("{call}\nslow   {came:?} {lines:?}\nwanted {wanted:?}"));
+            let call = format!("edition {} budget {budget} log_len {log_len} scratch_len {scratch_len}", t.edition);
+            let answers = format!("slow   {came:?} {lines:?}\nwanted {wanted:?}");
+            self.mismatch(&format!("slow engine: {what}"), &t.bytes, format!("{call}\n{answers}"));
         }
         self.call(t, budget, &run, log_len, scratch_len);
     }
 
     /// A standing that must be given, against both engines, likewise.
-    fn gives_standing(&mut self, t: &[u8], rule: u32, log: &[u16], wanted: &Standing) {
-        let judged = slow::judge(t);
-        let came = slow::stands(t, judged, rule, log);
+    fn gives_standing(&mut self, t: &Table, rule: u32, log: &[u16], wanted: &Standing) {
+        let judged = slow::judge(&t.bytes, t.edition);
+        let came = slow::stands(&t.bytes, t.edition, judged, rule, log);
         if let Some(what) = standings_differ(&came, wanted).filter(|_| mutant(0)) {
-            let call = format!("rule {rule} log {log:?}");
-            self.mismatch(&format!("slow engine: standing: {what}"), t, format!("{call}\nslow   {came:?}\nwanted {wanted:?}"));
+            let call = format!("edition {} rule {rule} log {log:?}", t.edition);
+            let numbers = format!("slow   {came:?}\nwanted {wanted:?}");
+            self.mismatch(&format!("slow engine: standing: {what}"), &t.bytes, format!("{call}\n{numbers}"));
         }
         self.stands(t, judged, rule, log);
+    }
+
+    /// A conversion that must be given, against both engines, likewise; 0 or the refusal, and the new file.
+    fn gives_conversion(&mut self, t: &Table, out_len: usize, refused: u32, wanted: &[u8]) {
+        let (came, file) = slow::convert(&t.bytes, t.edition, out_len);
+        let difference = written_differs(&came, &Written { refused, bytes: wanted.len() as u32 })
+            .or_else(|| elements_differ("byte", &file, wanted, 0))
+            .filter(|_| mutant(0));
+        if let Some(what) = difference {
+            let call = format!("edition {} out_len {out_len}", t.edition);
+            let files = format!("slow   {came:?} {}\nwanted {refused} {}", hex(&file), hex(wanted));
+            self.mismatch(&format!("slow engine: conversion: {what}"), &t.bytes, format!("{call}\n{files}"));
+        }
+        self.convert(t, out_len);
+    }
+
+    /// A refusal of the table, which every call must give, whatever is lent and whatever rule is named.
+    fn gives_refusal(&mut self, t: &Table, number: u32) {
+        self.gives(t, u32::MAX, LOG_MOST, SCRATCH, &refusal(number));
+        self.gives(t, 0, 0, 0, &refusal(number));
+        for rule in [0, 65_536] {
+            self.gives_standing(t, rule, &[0, 2], &Standing { refused: number, standing: 0 });
+        }
+        for out_len in [0, new_len(t), OUT_MOST] {
+            self.gives_conversion(t, out_len, number, &[]);
+        }
     }
 
     /// What the slow engine must print.
@@ -851,32 +1117,40 @@ impl Bench {
 
     fn case(&mut self, of: &str, (name, t, budget, numbers, log): Case) {
         self.place = format!("{of}: {name}");
-        let (log_len, scratch_len) = (self.full_len(&t), self.scratch_len(true));
-        self.gives(&t, budget, log_len, scratch_len, &(answer(numbers), log.to_vec()));
+        for t in in_editions(&t) {
+            let (log_len, scratch_len) = (self.full_len(&t), self.scratch_len(true));
+            self.gives(&t, budget, log_len, scratch_len, &(answer(numbers), log.to_vec()));
+        }
     }
 
-    /// The cases of document 01, those of counted pairs, of short logs and of standings, against both engines.
+    /// The cases of document 01, those of counted pairs, of short logs, of standings and of editions, against both engines.
     fn cases(&mut self) {
         cases().into_iter().for_each(|case| self.case("document 01", case));
         pair_counts().into_iter().for_each(|case| self.case("document 02, S-4", case));
         self.place = "document 01: 512 atoms".to_string();
-        assert_eq!(self.enough(&tables::sized(0, 512), u32::MAX).refused, 0);
+        assert_eq!(self.enough(&old(&tables::sized(0, 512)), u32::MAX).refused, 0);
         for (name, t, budget, log_len, numbers, log) in short_logs() {
             self.place = format!("document 02, S-2: {name}");
-            self.gives(&t, budget, log_len, SCRATCH, &(answer(numbers), log.to_vec()));
+            for t in in_editions(&t) {
+                self.gives(&t, budget, log_len, SCRATCH, &(answer(numbers), log.to_vec()));
+            }
         }
         for (name, t, text) in sheets() {
             self.place = format!("document 01: {name}");
-            self.slow_prints(&t, text);
-            self.sheet(&t);
+            self.slow_prints(&t.bytes, text);
+            self.sheet(&t.bytes);
         }
         self.standing_cases();
+        self.edition_cases();
+        self.left_words();
     }
 
     fn standing_cases(&mut self) {
         for (name, t, rule, log, standing) in standings() {
             self.place = format!("document 02, S-3: {name}");
-            self.gives_standing(&t, rule, log, &Standing { refused: 0, standing });
+            for t in in_editions(&t) {
+                self.gives_standing(&t, rule, log, &Standing { refused: 0, standing });
+            }
         }
         for rule in [2, 3, 65_535, 65_536, 65_537, 1 << 31, u32::MAX] {
             self.place = format!("document 02, S-3: rule {rule} of case 1");
@@ -890,6 +1164,51 @@ impl Bench {
         }
     }
 
+    fn edition_cases(&mut self) {
+        for (name, t, number) in refused_in_editions() {
+            self.place = format!("document 02, S-5: {name}");
+            self.gives_refusal(&t, number);
+        }
+        for (number, t) in (1..).zip(refused()) {
+            self.place = format!("document 02, S-5: a table refused by {number}");
+            in_editions(&t).iter().for_each(|t| self.gives_refusal(t, number));
+        }
+        for &edition in NO_EDITION {
+            self.place = format!("document 02, S-5: edition {edition}");
+            for t in [case_1(), two(&case_1()), old(&[]), opposed(&[(0, 0)])] {
+                self.gives_refusal(&Table { edition, ..t }, 1);
+            }
+        }
+        for (name, t, out_len, refused, file) in conversions() {
+            self.place = format!("document 02, S-5: {name}");
+            self.gives_conversion(&t, out_len, refused, &file);
+        }
+    }
+
+    /// A rule without antecedents by its left word. Strict, defeasible and defeater have three logs.
+    fn left_words(&mut self) {
+        for left in (0..=18).chain([65_535]) {
+            let t = table(1, &[], &[(left, 0, &[])], &[]);
+            self.left_word(&t, left, left <= 2);
+            self.left_word(&two(&t), left, [0, 1, 2, 4, 5, 6, 8, 9, 10, 12, 13, 14].contains(&left));
+        }
+    }
+
+    fn left_word(&mut self, t: &Table, left: usize, legal: bool) {
+        self.place = format!("document 02, S-5: left word {left} in edition {}", t.edition);
+        if !legal {
+            return self.gives_refusal(t, 4);
+        }
+        let log = [[0, 5, 2, 7], [1, 5, 7, 2], [1, 5, 3, 7]][left % 4];
+        self.gives(t, 6, 4, SCRATCH, &(answer([0, 1, 4, 4, 6]), log.to_vec()));
+        self.gives_standing(t, 0, &log, &Standing { refused: 0, standing: FIRING });
+        match t.edition {
+            OLD => self.gives_conversion(t, 15, 0, &two(t).bytes),
+            _ if left <= 2 => self.gives_conversion(t, 14, 0, t.layout()),
+            _ => self.gives_conversion(t, 14, 10, &[]),
+        }
+    }
+
     /// base.bin, against both engines.
     fn base_vectors(&mut self, dir: &str) {
         let mut r = Reader::open(dir, "base.bin");
@@ -897,7 +1216,7 @@ impl Bench {
             self.place = r.place();
             let (budget, answer) = (r.long(), r.answer());
             let log = (0..answer.lines).map(|_| r.word()).collect();
-            self.gives(&t, budget, LOG_MOST, SCRATCH, &(answer, log));
+            self.gives(&old(&t), budget, LOG_MOST, SCRATCH, &(answer, log));
             r.record += 1;
         }
         r.end();
@@ -911,7 +1230,26 @@ impl Bench {
             let t = r.field();
             let [budget, log_len, scratch_len] = [(); 3].map(|_| r.number());
             let wanted = (answer([(); 5].map(|_| r.number())), r.words());
-            self.gives(&t, budget, log_len as usize, scratch_len as usize, &wanted);
+            self.gives(&old(&t), budget, log_len as usize, scratch_len as usize, &wanted);
+            r.record += 1;
+        }
+        r.end();
+    }
+
+    /// editions.bin, against both engines; "a table's refusal by 1 to 7 is that of every call".
+    fn edition_vectors(&mut self, dir: &str) {
+        let mut r = Reader::open(dir, "editions.bin");
+        while r.at < r.bytes.len() {
+            self.place = r.place();
+            let bytes = r.field();
+            let [edition, out_len, refused] = [(); 3].map(|_| r.number());
+            let (t, file) = (Table { edition, bytes }, r.field());
+            self.gives_conversion(&t, out_len as usize, refused, &file);
+            if (1..=7).contains(&refused) {
+                self.gives_refusal(&t, refused);
+            } else {
+                self.enough(&t, u32::MAX);
+            }
             r.record += 1;
         }
         r.end();
@@ -932,46 +1270,32 @@ impl Bench {
 
     /// How often each answer came; ends the program.
     fn end(&self) -> ! {
-        println!("calls {}", self.calls);
-        for k in 1..=9 {
-            println!("refused {k}: {}", self.refused[k]);
-        }
-        println!("stopped {}", self.stopped);
-        println!("finished {}", self.finished);
-        println!("short logs accepted {}", self.short);
-        println!("short logs outgrown {}", self.outgrown);
-        println!("sheets {}", self.sheets);
-        println!("standings {}", self.standings);
-        for k in 1..=7 {
-            println!("standings refused {k}: {}", self.not_stood[k]);
-        }
-        println!("rule numbers refused {}", self.strange);
-        println!("firing {}", self.stood[FIRING as usize]);
-        println!("out {}", self.stood[OUT as usize]);
-        println!("waiting {}", self.stood[WAITING as usize]);
-        println!("firing without antecedents {}", self.bodiless);
-        println!("coherent logs {}", self.coherent);
+        let [none, old, two] = &self.counts;
+        let mut list = vec![
+            counted("calls", self.calls, 200_000),
+            counted("sheets", self.sheets, 20_000),
+            counted("standings", self.standings, 200_000),
+            counted("conversions", self.conversions, 200_000),
+            counted("short logs outgrown", self.outgrown, 1_000),
+            counted("coherent logs", self.coherent, 10_000),
+            counted("tables that ran alike with origins and without", self.alike, 5_000),
+            counted("tables converted there and back", self.returned, 20_000),
+        ];
+        list.extend(old.list("old layout: ", 10_000));
+        list.extend(two.list("edition two: ", 5_000));
+        list.extend([
+            counted("edition two: conversions refused 10:", two.not_converted[10], 1_000),
+            counted("no edition: refused 1:", none.refused[1], 1_000),
+            counted("no edition: standings refused 1:", none.not_stood[1], 1_000),
+            counted("no edition: conversions refused 1:", none.not_converted[1], 1_000),
+        ]);
+        list.iter().for_each(|(what, came, _)| println!("{what} {came}"));
         println!("mismatches 0");
-        self.often();
-        std::process::exit(0)
-    }
-
-    /// Each answer must have come often enough.
-    fn often(&self) {
-        let often = self.refused[1..].iter().all(|&n| n >= 500)
-            && [self.stopped, self.finished, self.refused[9], self.short].iter().all(|&n| n >= 10_000)
-            && self.outgrown >= 1_000
-            && self.calls >= 200_000
-            && self.sheets >= 20_000
-            && self.not_stood[1..].iter().all(|&n| n >= 500)
-            && self.stood.iter().chain([&self.bodiless, &self.strange, &self.coherent]).all(|&n| n >= 10_000)
-            && self.standings >= 200_000;
-        if self.last >= CALLS && !often {
-            println!("FAILED: an answer came too seldom (refusals 500; 9, stopped, finished and short logs accepted 10,000;");
-            println!("short logs outgrown 1,000; calls 200,000; sheets 20,000; standings refused 500; rule numbers refused,");
-            println!("firing, firing without antecedents, out, waiting and coherent logs 10,000; standings 200,000)");
-            std::process::exit(1);
+        let seldom: Vec<_> = list.iter().filter(|(_, came, least)| self.last >= CALLS && came < least).collect();
+        for (what, _, least) in &seldom {
+            println!("FAILED: {what} came too seldom, at least {least} are wanted");
         }
+        std::process::exit(!seldom.is_empty() as i32)
     }
 }
 
@@ -979,51 +1303,81 @@ fn answer([refused, finished, lines, worked, spent]: [u32; 5]) -> Answer {
     Answer { refused, finished, lines, worked, spent }
 }
 
+fn refusal(number: u32) -> Run {
+    (answer([number, 0, 0, 0, 0]), vec![])
+}
+
+fn old(bytes: &[u8]) -> Table {
+    Table::of(OLD, bytes)
+}
+
+/// The table in edition two.
+fn two(t: &Table) -> Table {
+    Table::of(TWO, &t.bytes)
+}
+
+/// The table in edition two, its rules with origins 1, 2, 3, 1 and so on.
+fn with_origins(t: &Table) -> Table {
+    let (mut two, first) = (two(t), 11 + 2 * size(t, 1));
+    for (i, origin) in (0..size(t, 2)).zip([1, 2, 3].into_iter().cycle()) {
+        if let Some(low) = two.bytes.get_mut(first + 2 * i) {
+            *low += 4 * origin;
+        }
+    }
+    two
+}
+
+/// The table as it is, in edition two, and there with origins.
+fn in_editions(t: &Table) -> [Table; 3] {
+    [t.clone(), two(t), with_origins(t)]
+}
+
 /// "Case 1: sizes 2,1,2,1,1; left 0,1,1,0,0; right 0,2,3,0,1 (30 bytes)."
-fn case_1() -> Vec<u8> {
-    [2u16, 1, 2, 1, 1, 0, 1, 1, 0, 0, 0, 2, 3, 0, 1].iter().flat_map(|w| w.to_le_bytes()).collect()
+fn case_1() -> Table {
+    let words = [2u16, 1, 2, 1, 1, 0, 1, 1, 0, 0, 0, 2, 3, 0, 1];
+    old(&words.map(|w| w.to_le_bytes()).concat())
 }
 
 /// A table with these facts, rules (kind, head, antecedents) and pairs.
-fn table(a: usize, facts: &[usize], rules: &[(usize, usize, &[usize])], pairs: &[(usize, usize)]) -> Vec<u8> {
+fn table(a: usize, facts: &[usize], rules: &[(usize, usize, &[usize])], pairs: &[(usize, usize)]) -> Table {
     let mut d = Draft { a, ..Draft::default() };
     facts.iter().for_each(|&q| d.fact(q));
     for &(kind, head, body) in rules {
         d.rule(kind, head, body);
     }
     pairs.iter().for_each(|&(t, s)| d.pair(t, s));
-    d.bytes()
+    d.table(OLD)
 }
 
-fn itself() -> Vec<u8> {
+fn itself() -> Table {
     table(1, &[], &[(1, 0, &[0])], &[])
 }
 
-fn both() -> Vec<u8> {
+fn both() -> Table {
     table(1, &[0, 1], &[], &[])
 }
 
-fn defeater() -> Vec<u8> {
+fn defeater() -> Table {
     table(1, &[], &[(1, 0, &[]), (2, 1, &[])], &[])
 }
 
 /// A rule for each literal of one atom.
-fn opposed(pairs: &[(usize, usize)]) -> Vec<u8> {
+fn opposed(pairs: &[(usize, usize)]) -> Table {
     table(1, &[], &[(1, 0, &[]), (1, 1, &[])], pairs)
 }
 
 /// Rule 0 for literal 0, rule 2 for literal 1, and rule 1 about another atom, which is weaker than rule 0 and stronger than rule 2.
-fn no_closure() -> Vec<u8> {
+fn no_closure() -> Table {
     table(2, &[], &[(1, 0, &[]), (1, 2, &[]), (1, 1, &[])], &[(0, 1), (1, 2)])
 }
 
 /// Two supporters of atom 0 that beat two attackers as a team.
-fn platypus() -> Vec<u8> {
+fn platypus() -> Table {
     table(5, &[2, 4, 6, 8], &[(1, 0, &[2]), (1, 0, &[4]), (1, 1, &[6]), (1, 1, &[8])], &[(0, 2), (1, 3)])
 }
 
 /// What it is, the table, the budget, the five numbers and the log.
-type Case = (&'static str, Vec<u8>, u32, [u32; 5], &'static [u16]);
+type Case = (&'static str, Table, u32, [u32; 5], &'static [u16]);
 
 fn cases() -> Vec<Case> {
     let one: &[u16] = &[0, 5, 9, 13, 2, 7, 10, 15];
@@ -1033,28 +1387,29 @@ fn cases() -> Vec<Case> {
         ("case 1, budget 16", case_1(), 16, [0, 0, 8, 7, 16], one),
         ("case 1, budget 13", case_1(), 13, [0, 0, 6, 4, 11], &one[..6]),
         ("case 1, budget 6", case_1(), 6, [0, 0, 0, 0, 0], &[]),
-        ("the empty table", vec![0; 10], 0, [0, 1, 0, 0, 0], &[]),
+        ("the empty table", old(&[0; 10]), 0, [0, 1, 0, 0, 0], &[]),
         ("a rule from a literal to itself", itself(), 9, [0, 1, 3, 3, 6], &[1, 5, 7]),
         ("facts 0 and 1", both(), 7, [0, 1, 4, 4, 7], &[0, 4, 2, 6]),
         ("a defeater", defeater(), 7, [0, 1, 4, 4, 7], &[1, 5, 3, 7]),
         ("priority is not transitive", no_closure(), 19, [0, 1, 8, 8, 15], &[1, 5, 9, 13, 3, 7, 15, 10]),
         ("pairs (0,1),(1,0)", opposed(&[(0, 1), (1, 0)]), 100, [7, 0, 0, 0, 0], &[]),
         ("pair (0,0)", opposed(&[(0, 0)]), 100, [7, 0, 0, 0, 0], &[]),
-        ("nine bytes", vec![1; 9], 0, [1, 0, 0, 0, 0], &[]),
-        ("513 atoms", tables::sized(0, 513), 9_999, [2, 0, 0, 0, 0], &[]),
+        ("nine bytes", old(&[1; 9]), 0, [1, 0, 0, 0, 0], &[]),
+        ("513 atoms", old(&tables::sized(0, 513)), 9_999, [2, 0, 0, 0, 0], &[]),
         ("a strange fact and a rule of kind 3", table(1, &[2], &[(3, 0, &[])], &[]), 100, [4, 0, 0, 0, 0], &[]),
+        ("a fact twice", table(1, &[0, 0], &[], &[]), 100, [6, 0, 0, 0, 0], &[]),
     ]
 }
 
 /// The last of n rules is settled by +∂ of the fact 0; the others have no antecedents. No two heads are complementary.
-fn settled_last(n: usize, pairs: &[(usize, usize)]) -> Vec<u8> {
+fn settled_last(n: usize, pairs: &[(usize, usize)]) -> Table {
     let mut rules: Vec<(usize, usize, &[usize])> = vec![(1, 0, &[]); n];
     rules[n - 1] = (1, 2, &[0]);
     table(2, &[0], &rules, pairs)
 }
 
 /// Rule 0, which a pair names, is visited by +∂ of the fact 0, and settled by +∂ of the fact 2.
-fn visited_twice() -> Vec<u8> {
+fn visited_twice() -> Table {
     table(3, &[0, 2], &[(1, 4, &[0, 2]), (1, 0, &[])], &[(0, 1)])
 }
 
@@ -1072,7 +1427,7 @@ fn pair_counts() -> Vec<Case> {
 }
 
 /// What it is, the table, the budget, the words of log, the five numbers and the log.
-type ShortLog = (&'static str, Vec<u8>, u32, usize, [u32; 5], &'static [u16]);
+type ShortLog = (&'static str, Table, u32, usize, [u32; 5], &'static [u16]);
 
 fn short_logs() -> Vec<ShortLog> {
     let (one, own): (&[u16], &[u16]) = (&[0, 5, 9, 13, 2, 7], &[1, 5, 7]);
@@ -1093,7 +1448,7 @@ fn short_logs() -> Vec<ShortLog> {
 }
 
 /// What it is, the table, the rule, the log and how the rule stands.
-type Stands = (&'static str, Vec<u8>, u32, &'static [u16], u32);
+type Stands = (&'static str, Table, u32, &'static [u16], u32);
 
 fn standings() -> Vec<Stands> {
     let one: &[u16] = &[0, 5, 9, 13, 2, 7, 10, 15];
@@ -1120,11 +1475,11 @@ fn standings() -> Vec<Stands> {
 }
 
 /// A table for each of the refusals 1 to 7.
-fn refused() -> [Vec<u8>; 7] {
+fn refused() -> [Table; 7] {
     [
-        vec![1; 9],
-        tables::sized(0, 513),
-        case_1()[..29].to_vec(),
+        old(&[1; 9]),
+        old(&tables::sized(0, 513)),
+        old(&case_1().bytes[..29]),
         table(1, &[2], &[(3, 0, &[])], &[]),
         table(1, &[2, 0], &[(1, 0, &[])], &[]),
         table(1, &[1, 0], &[(1, 0, &[])], &[(0, 0)]),
@@ -1132,8 +1487,60 @@ fn refused() -> [Vec<u8>; 7] {
     ]
 }
 
+/// What it is, the table, and the number that every call refuses it by.
+fn refused_in_editions() -> Vec<(&'static str, Table, u32)> {
+    let file = |edition: u32, bytes: &[&[u8]]| Table { edition, bytes: bytes.concat() };
+    let case_1 = case_1().bytes;
+    let mut fact_of_4 = Draft { a: 1, ..Draft::default() };
+    fact_of_4.sections[0].push((4, 0));
+    vec![
+        ("no bytes in the old layout", file(OLD, &[]), 1),
+        ("no bytes in edition two", file(TWO, &[]), 1),
+        ("the byte 2 alone", file(TWO, &[&[2]]), 1),
+        ("the byte 2 and nine more", file(TWO, &[&[2], &[0; 9]]), 1),
+        ("the byte 2 and ten more in the old layout", file(OLD, &[&[2], &[0; 10]]), 3),
+        ("ten bytes 0 in edition two", file(TWO, &[&[0; 10]]), 1),
+        ("ten bytes 0 after the byte 1", file(TWO, &[&[1], &[0; 10]]), 1),
+        ("case 1 after the byte 3", file(TWO, &[&[3], &case_1]), 1),
+        ("513 atoms after the byte 0", file(TWO, &[&[0], &tables::sized(0, 513)]), 1),
+        ("case 1, whose first byte is 2, in edition two", file(TWO, &[&case_1]), 3),
+        ("case 1 after the byte 2 in the old layout", file(OLD, &[&[2], &case_1]), 2),
+        ("case 1 after the byte 2 twice", file(TWO, &[&[2, 2], &case_1]), 2),
+        ("case 1 after the byte 2 but for a byte", file(TWO, &[&[2], &case_1[..29]]), 3),
+        ("case 1 after the byte 2, and a byte more", file(TWO, &[&[2], &case_1, &[0]]), 3),
+        ("a fact's left word 4 in the old layout", fact_of_4.table(OLD), 4),
+        ("a fact's left word 4 in edition two", fact_of_4.table(TWO), 4),
+    ]
+}
+
+/// What it is, the table, the bytes of output, 0 or the refusal, and the new file.
+type Conversion = (&'static str, Table, usize, u32, Vec<u8>);
+
+fn conversions() -> Vec<Conversion> {
+    let (one, empty) = (case_1(), old(&[0; 10]));
+    let last = table(1, &[], &[(1, 0, &[]), (14, 1, &[])], &[]);
+    vec![
+        ("case 1 there", one.clone(), 31, 0, two(&one).bytes),
+        ("case 1 there, more output", one.clone(), 32, 0, two(&one).bytes),
+        ("case 1 there, as much output as table", one.clone(), 30, 9, vec![]),
+        ("case 1 there, no output", one.clone(), 0, 9, vec![]),
+        ("case 1 back", two(&one), 30, 0, one.bytes.clone()),
+        ("case 1 back, as much output as table", two(&one), 31, 0, one.bytes.clone()),
+        ("case 1 back, a byte less", two(&one), 29, 9, vec![]),
+        ("case 1 with origins back", with_origins(&one), 30, 10, vec![]),
+        ("case 1 with origins back, more output", with_origins(&one), OUT_MOST, 10, vec![]),
+        ("case 1 with origins back, a byte less", with_origins(&one), 29, 9, vec![]),
+        ("case 1 with origins back, no output", with_origins(&one), 0, 9, vec![]),
+        ("the empty table there", empty.clone(), 11, 0, two(&empty).bytes),
+        ("the empty table there, a byte less", empty.clone(), 10, 9, vec![]),
+        ("the empty table back", two(&empty), 10, 0, vec![0; 10]),
+        ("the empty table back, a byte less", two(&empty), 9, 9, vec![]),
+        ("an origin of the last rule alone", two(&last), 18, 10, vec![]),
+    ]
+}
+
 /// What it is, the table and its sheet.
-fn sheets() -> Vec<(&'static str, Vec<u8>, &'static str)> {
+fn sheets() -> Vec<(&'static str, Table, &'static str)> {
     vec![
         ("case 1", case_1(), "atoms 2\n0 go\n1 go\nspent 17 of 19\n"),
         ("a rule from a literal to itself", itself(), "atoms 1\n0 open\nspent 6 of 9\n"),
@@ -1284,6 +1691,7 @@ fn main() {
         bench.base_vectors(&dir);
         bench.sheet_vectors(&dir);
         bench.short_log_vectors(&dir);
+        bench.edition_vectors(&dir);
     }
     bench.last = bench.calls + calls;
     bench.cases();

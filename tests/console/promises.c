@@ -1,6 +1,6 @@
-/* The promises of include/flyrules.h, on case 1, on a rule from a literal to itself, and on a table with every size at its limit. The
- * first that is not kept ends the program with status 1 and a line that says which call it was, what differs, what came and what was
- * wanted. */
+/* The promises of include/flyrules.h, on case 1, on a rule from a literal to itself, and on a table with every size at its limit, in the
+ * old layout and in edition two. The first that is not kept ends the program with status 1 and a line that says which call it was, what
+ * differs, what came and what was wanted. */
 #define _DEFAULT_SOURCE
 #include "flyrules.h"
 
@@ -10,11 +10,12 @@
 #include <string.h>
 #include <sys/mman.h>
 
-enum { MORE = 5 }; /* words past what a run needs */
+enum { MORE = 5 }; /* words past what a run needs, bytes past a new file */
 
-/* A table, the lines that a run to its finish writes, and its sheet. */
+/* A table, the lines that a run to its finish writes, and the sheet of these bytes. */
 typedef struct {
     const char *name;
+    uint32_t edition;
     const uint8_t *bytes;
     size_t n;
     const uint16_t *lines;
@@ -27,13 +28,28 @@ static const uint8_t ITSELF_BYTES[18] = {1, 0, 0, 0, 1, 0, 1, 0, 0, 0, 1, 0, 0, 
 static const uint16_t ITSELF_LOG[3] = {1, 5, 7};
 static const uint8_t CIRCLE_BYTES[18] = {1, 0, 0, 0, 1, 0, 0, 0, 1, 0, 1, 0, 0, 0, 0, 0, 0, 0};
 
-static const table CASE_1 = {"case 1", BYTES_1, sizeof BYTES_1, LOG_1, "atoms 2\n0 go\n1 go\nspent 17 of 19\n"};
-static const table ITSELF = {"a rule from a literal to itself", ITSELF_BYTES, sizeof ITSELF_BYTES, ITSELF_LOG,
+/* case 1 in edition two: without origins, with the origins console and house, and with console and one that there is not */
+static const uint8_t TWO_BYTES[31] = {2, 2, 0, 1, 0, 2, 0, 1, 0, 1, 0, 0, 0, 1, 0, 1, 0, 0, 0, 0, 0, 0, 0, 2, 0, 3, 0, 0, 0, 1, 0};
+static const uint8_t ORIGIN_BYTES[31] = {2, 2, 0, 1, 0, 2, 0, 1, 0, 1, 0, 0, 0, 13, 0, 5, 0, 0, 0, 0, 0, 0, 0, 2, 0, 3, 0, 0, 0, 1, 0};
+static const uint8_t ABOVE_BYTES[31] = {2, 2, 0, 1, 0, 2, 0, 1, 0, 1, 0, 0, 0, 13, 0, 17, 0, 0, 0, 0, 0, 0, 0, 2, 0, 3, 0, 0, 0, 1, 0};
+
+static const table CASE_1 = {"case 1", FLY_OLD, BYTES_1, sizeof BYTES_1, LOG_1, "atoms 2\n0 go\n1 go\nspent 17 of 19\n"};
+static const table ITSELF = {"a rule from a literal to itself", FLY_OLD, ITSELF_BYTES, sizeof ITSELF_BYTES, ITSELF_LOG,
                              "atoms 1\n0 open\nspent 6 of 9\n"};
-static const table NOTHING = {"no bytes", BYTES_1, 0, NULL, "refused 1\n"};
-static const table STUB = {"nine bytes of case 1", BYTES_1, 9, NULL, "refused 1\n"};
-static const table SHORT = {"case 1 but for a byte", BYTES_1, 29, NULL, "refused 3\n"};
-static const table CIRCLE = {"a circle", CIRCLE_BYTES, sizeof CIRCLE_BYTES, NULL, "refused 7\n"};
+static const table NOTHING = {"no bytes", FLY_OLD, BYTES_1, 0, NULL, "refused 1\n"};
+static const table STUB = {"nine bytes of case 1", FLY_OLD, BYTES_1, 9, NULL, "refused 1\n"};
+static const table SHORT = {"case 1 but for a byte", FLY_OLD, BYTES_1, 29, NULL, "refused 3\n"};
+static const table CIRCLE = {"a circle", FLY_OLD, CIRCLE_BYTES, sizeof CIRCLE_BYTES, NULL, "refused 7\n"};
+
+static const table TWO = {"case 1 in edition two", FLY_TWO, TWO_BYTES, sizeof TWO_BYTES, LOG_1, "refused 2\n"};
+static const table ORIGINS = {"case 1 with origins", FLY_TWO, ORIGIN_BYTES, sizeof ORIGIN_BYTES, LOG_1, "refused 2\n"};
+static const table OLD_ORIGINS = {"case 1 with origins in the old layout", FLY_OLD, ORIGIN_BYTES + 1, 30, NULL, "refused 4\n"};
+static const table NO_BYTE = {"no byte in edition two", FLY_TWO, TWO_BYTES, 0, NULL, "refused 1\n"};
+static const table FIRST_BYTE = {"the first byte alone", FLY_TWO, TWO_BYTES, 1, NULL, "refused 1\n"};
+static const table STUB_TWO = {"the first byte and nine more", FLY_TWO, TWO_BYTES, 10, NULL, "refused 2\n"};
+static const table SHORT_TWO = {"case 1 in edition two but for a byte", FLY_TWO, TWO_BYTES, 30, NULL, "refused 2\n"};
+static const table OLD_AS_TWO = {"the circle as edition two", FLY_TWO, CIRCLE_BYTES, sizeof CIRCLE_BYTES, NULL, "refused 7\n"};
+static const table ABOVE_3 = {"a rule of origin 4", FLY_TWO, ABOVE_BYTES, sizeof ABOVE_BYTES, NULL, "refused 2\n"};
 
 /* ---- the table at its limits, which tests/cases/write.py has too ---- */
 
@@ -49,7 +65,14 @@ enum {
 static uint8_t limits_bytes[FLY_MAX_BYTES];
 static uint16_t limits_log[FLY_LOG];
 static char limits_sheet[FLY_SHEET + 1];
-static const table LIMITS = {"every size at its limit", limits_bytes, sizeof limits_bytes, limits_log, limits_sheet};
+static const table LIMITS = {"every size at its limit", FLY_OLD, limits_bytes, sizeof limits_bytes, limits_log, limits_sheet};
+
+/* in edition two: without origins, and with all of them */
+static uint8_t limits_two[1 + FLY_MAX_BYTES], limits_origins[1 + FLY_MAX_BYTES];
+static const table LIMITS_TWO = {"every size at its limit in edition two", FLY_TWO, limits_two, sizeof limits_two, limits_log,
+                                 "refused 3\n"};
+static const table LIMITS_ORIGINS = {"every size at its limit, with origins", FLY_TWO, limits_origins, sizeof limits_origins, limits_log,
+                                     "refused 3\n"};
 
 static void put_word(size_t i, size_t word) {
     limits_bytes[2 * i] = (uint8_t)word;
@@ -69,6 +92,13 @@ static void make_bytes(void) {
     for (size_t k = 0; k < RULES; k++) put_place(i++, k % 3, k % 8);
     for (size_t k = 0; k < ENTRIES; k++) put_place(i++, k / 8, k % 8);
     for (size_t k = 0; k < PAIRS; k++) put_place(i++, k / 4, k / 4 + 1 + k % 4);
+}
+
+static void make_editions(void) {
+    limits_two[0] = 2;
+    memcpy(limits_two + 1, limits_bytes, FLY_MAX_BYTES);
+    memcpy(limits_origins, limits_two, sizeof limits_two);
+    for (size_t k = 0; k < RULES; k++) limits_origins[1 + 2 * (5 + FACTS + k)] |= (uint8_t)(4 * (k / 3 % 4));
 }
 
 /* Every literal is a fact: the opening writes +Δ of each, and working that line writes +∂. */
@@ -163,7 +193,7 @@ static void runs(const table *t, uint32_t budget, size_t log_len, size_t scratch
     snprintf(call, sizeof call, "%s (budget %u, log %zu, scratch %zu)", t->name, (unsigned)budget, log_len, scratch_len);
     uint8_t *bytes = lend_table(t);
     buffers b = lend(log_len, scratch_len);
-    fly_answer a = fly_run(bytes, t->n, budget, b.log, log_len, b.scratch, scratch_len);
+    fly_answer a = fly_run(bytes, t->n, t->edition, budget, b.log, log_len, b.scratch, scratch_len);
     same(call, "refused", NUMBER, a.refused, want.refused);
     same(call, "finished", NUMBER, a.finished, want.finished);
     same(call, "lines", NUMBER, a.lines, want.lines);
@@ -180,7 +210,7 @@ static void stands(const table *t, uint32_t rule, const uint16_t *words, size_t 
     uint8_t *bytes = lend_table(t);
     uint16_t *log = guarded(2 * n);
     memcpy(log, words, 2 * n);
-    fly_standing s = fly_stands(bytes, t->n, rule, log, n);
+    fly_standing s = fly_stands(bytes, t->n, t->edition, rule, log, n);
     same(call, "refused", NUMBER, s.refused, want.refused);
     same(call, "standing", NUMBER, s.standing, want.standing);
     for (size_t i = 0; i < n; i++) same(call, "log word", i, log[i], words[i]);
@@ -188,11 +218,29 @@ static void stands(const table *t, uint32_t rule, const uint16_t *words, size_t 
     table_left(call, bytes, t);
 }
 
-/* The table's refusal comes before that of a rule number. */
+/* The output's first bytes are the file, none with a refusal, and the rest the noise. */
+static void converts(const table *t, size_t out_len, uint32_t refused, const table *file) {
+    char call[128];
+    snprintf(call, sizeof call, "%s (output %zu)", t->name, out_len);
+    uint8_t *bytes = lend_table(t), *out = guarded(out_len);
+    size_t n = refused ? 0 : file->n;
+    for (size_t i = 0; i < out_len; i++) out[i] = (uint8_t)noise(i);
+    fly_written w = fly_convert(bytes, t->n, t->edition, out, out_len);
+    same(call, "refused", NUMBER, w.refused, refused);
+    same(call, "bytes", NUMBER, w.bytes, n);
+    for (size_t i = 0; i < out_len; i++) same(call, "output byte", i, out[i], i < n ? file->bytes[i] : (uint8_t)noise(i));
+    give_back(out, out_len);
+    table_left(call, bytes, t);
+}
+
+/* The table's refusal comes before that of a rule number, and of what is lent. */
 static void refuses(const table *t, uint32_t number) {
     static const uint32_t NUMBERS[4] = {0, 1, 65536, UINT32_MAX};
     runs(t, 19, FLY_LOG, FLY_SCRATCH + MORE, (fly_answer){number, 0, 0, 0, 0});
+    runs(t, 19, 0, 0, (fly_answer){number, 0, 0, 0, 0});
     for (size_t i = 0; i < 4; i++) stands(t, NUMBERS[i], LOG_1, 8, (fly_standing){number, 0});
+    converts(t, 0, number, NULL);
+    converts(t, FLY_MAX_BYTES + 1, number, NULL);
 }
 
 static void prints(const table *t) {
@@ -261,17 +309,76 @@ static void standings(void) {
     stands(&LIMITS, RULES, limits_log, FLY_LOG, STRANGE);
 }
 
+/* ---- edition two ---- */
+
+static const fly_answer ALL_1 = {0, 1, 8, 8, 17}, ALL_LIMITS = {0, 1, 2048, 2048, 20302};
+
+/* Edition two runs and stands like the old layout, with origins and without. */
+static void edition_two(void) {
+    static const table *const CASES[2] = {&TWO, &ORIGINS}, *const LARGEST[2] = {&LIMITS_TWO, &LIMITS_ORIGINS};
+    for (size_t i = 0; i < 2; i++) {
+        runs(CASES[i], 17, 8, FLY_SCRATCH + MORE, ALL_1);
+        runs(CASES[i], 13, 6, FLY_SCRATCH, (fly_answer){0, 0, 6, 4, 11});
+        runs(CASES[i], 13, 5, FLY_SCRATCH, (fly_answer){FLY_SHORT_LOG, 0, 0, 0, 0});
+        runs(CASES[i], 19, 8, FLY_SCRATCH - 1, (fly_answer){FLY_SHORT_SCRATCH, 0, 0, 0, 0});
+        stands(CASES[i], 0, LOG_1, 8, FIRING);
+        stands(CASES[i], 0, LOG_1, 4, WAITING);
+        stands(CASES[i], 2, LOG_1, 8, STRANGE);
+        prints(CASES[i]);
+        runs(LARGEST[i], FLY_MAX_SPENT, FLY_LOG, FLY_SCRATCH, ALL_LIMITS);
+        runs(LARGEST[i], ALL_BUT_ONE, FLY_LOG - 1, FLY_SCRATCH, (fly_answer){0, 0, 2047, 1023, ALL_BUT_ONE});
+        stands(LARGEST[i], 511, limits_log, FACTS + 7, WAITING);
+        stands(LARGEST[i], 511, limits_log, FACTS + 8, FIRING);
+        stands(LARGEST[i], RULES, limits_log, FLY_LOG, STRANGE);
+        prints(LARGEST[i]);
+    }
+    refuses(&NO_BYTE, FLY_TRUNCATED);
+    refuses(&FIRST_BYTE, FLY_TRUNCATED);
+    refuses(&STUB_TWO, FLY_TRUNCATED);
+    refuses(&OLD_AS_TWO, FLY_TRUNCATED);
+    refuses(&SHORT_TWO, FLY_WRONG_LENGTH);
+    refuses(&ABOVE_3, FLY_BAD_KIND);
+    refuses(&OLD_ORIGINS, FLY_BAD_KIND);
+}
+
+/* A table of an edition that there is not. */
+static void no_edition(const table *t) {
+    static const uint32_t NUMBERS[7] = {0, 3, 257, 258, 65537, 65538, UINT32_MAX};
+    for (size_t i = 0; i < 7; i++) {
+        char name[64];
+        snprintf(name, sizeof name, "%s as edition %u", t->name, (unsigned)NUMBERS[i]);
+        refuses(&(table){name, NUMBERS[i], t->bytes, t->n, NULL, NULL}, FLY_TRUNCATED);
+    }
+}
+
+/* There, back, and back with origins; a byte of output less, as much as the file, and more. */
+static void converts_both_ways(const table *old, const table *two, const table *origins) {
+    converts(old, old->n, FLY_SHORT_LOG, NULL);
+    converts(old, old->n + 1, 0, two);
+    converts(old, old->n + 1 + MORE, 0, two);
+    converts(two, old->n - 1, FLY_SHORT_LOG, NULL);
+    converts(two, old->n, 0, old);
+    converts(two, old->n + MORE, 0, old);
+    converts(origins, old->n - 1, FLY_SHORT_LOG, NULL);
+    converts(origins, old->n, FLY_HAS_ORIGIN, NULL);
+    converts(origins, old->n + MORE, FLY_HAS_ORIGIN, NULL);
+}
+
 /* ---- threads ---- */
 
 static void *again(void *unused) {
     for (int i = 0; i < 200; i++) {
-        runs(&CASE_1, 19, 8, FLY_SCRATCH, (fly_answer){0, 1, 8, 8, 17});
+        runs(&CASE_1, 19, 8, FLY_SCRATCH, ALL_1);
+        runs(&ORIGINS, 19, 8, FLY_SCRATCH, ALL_1);
         runs(&CASE_1, 13, 9, FLY_SCRATCH + MORE, (fly_answer){0, 0, 6, 4, 11});
         runs(&CASE_1, 13, 7, FLY_SCRATCH, (fly_answer){0, 0, 6, 4, 11});
         runs(&CASE_1, 19, 7, FLY_SCRATCH, (fly_answer){FLY_SHORT_LOG, 0, 0, 0, 0});
         prints(&CASE_1);
         stands(&CASE_1, 0, LOG_1, 8, FIRING);
-        stands(&CASE_1, 0, LOG_1, 4, WAITING);
+        stands(&ORIGINS, 0, LOG_1, 4, WAITING);
+        converts(&CASE_1, 31, 0, &TWO);
+        converts(&TWO, 30, 0, &CASE_1);
+        converts(&ORIGINS, 30, FLY_HAS_ORIGIN, NULL);
     }
     return unused;
 }
@@ -290,11 +397,12 @@ enum { STACK = 1 << 20 };
 
 static void *no_call(void *of) { return of; }
 
-/* A call, by its table; also the budget of a run or the rule that stands, the words of log and the refusal that comes of them. */
+/* A call, by its table; also the budget of a run or the rule that stands, the words of log or bytes of output, and the refusal that
+ * comes of them. */
 typedef struct {
     const table *of;
     uint32_t number;
-    size_t log_len;
+    size_t length;
     uint32_t refused;
 } one_call;
 
@@ -302,7 +410,8 @@ typedef struct {
 static void *run_call(void *call) {
     static uint16_t log[FLY_LOG], scratch[FLY_SCRATCH + MORE];
     const one_call *c = call;
-    CHECK(fly_run(c->of->bytes, c->of->n, c->number, log, c->log_len, scratch, FLY_SCRATCH + MORE).refused == c->refused);
+    const table *t = c->of;
+    CHECK(fly_run(t->bytes, t->n, t->edition, c->number, log, c->length, scratch, FLY_SCRATCH + MORE).refused == c->refused);
     return call;
 }
 
@@ -315,7 +424,15 @@ static void *sheet_call(void *call) {
 
 static void *stands_call(void *call) {
     const one_call *c = call;
-    CHECK(fly_stands(c->of->bytes, c->of->n, c->number, c->of->lines, c->log_len).refused == c->refused);
+    const table *t = c->of;
+    CHECK(fly_stands(t->bytes, t->n, t->edition, c->number, t->lines, c->length).refused == c->refused);
+    return call;
+}
+
+static void *convert_call(void *call) {
+    static uint8_t out[FLY_MAX_BYTES + 1];
+    const one_call *c = call;
+    CHECK(fly_convert(c->of->bytes, c->of->n, c->of->edition, out, c->length).refused == c->refused);
     return call;
 }
 
@@ -349,21 +466,34 @@ static size_t stack_of(const char *what, void *make(void *), const one_call *cal
 }
 
 static void stack_use(void) {
-    static const one_call FULL[] = {{&CASE_1, UINT32_MAX, FLY_LOG, 0}, {&LIMITS, UINT32_MAX, FLY_LOG, 0}};
+    static const one_call FULL[] = {{&CASE_1, UINT32_MAX, FLY_LOG, 0},
+                                    {&LIMITS, UINT32_MAX, FLY_LOG, 0},
+                                    {&ORIGINS, UINT32_MAX, FLY_LOG, 0},
+                                    {&LIMITS_ORIGINS, UINT32_MAX, FLY_LOG, 0}};
     static const one_call SHORT_LOGS[] = {{&CASE_1, 13, 7, 0},
                                           {&CASE_1, UINT32_MAX, 7, FLY_SHORT_LOG},
                                           {&ITSELF, UINT32_MAX, 3, 0},
                                           {&LIMITS, ALL_BUT_ONE, FLY_LOG - 1, 0},
-                                          {&LIMITS, UINT32_MAX, FLY_LOG - 1, FLY_SHORT_LOG}};
+                                          {&LIMITS, UINT32_MAX, FLY_LOG - 1, FLY_SHORT_LOG},
+                                          {&ORIGINS, 13, 7, 0},
+                                          {&LIMITS_ORIGINS, ALL_BUT_ONE, FLY_LOG - 1, 0}};
     static const one_call STANDINGS[] = {{&CASE_1, 0, 8, 0},
                                          {&LIMITS, 511, FLY_LOG, 0},
                                          {&LIMITS, 511, FACTS, 0},
-                                         {&LIMITS, RULES, FLY_LOG, FLY_OUT_OF_RANGE}};
-    size_t run = stack_of("the run", run_call, FULL, 2, FLY_RUN_STACK);
-    size_t short_log = stack_of("the short-log run", run_call, SHORT_LOGS, 5, FLY_SHORT_LOG_STACK);
+                                         {&LIMITS, RULES, FLY_LOG, FLY_OUT_OF_RANGE},
+                                         {&LIMITS_ORIGINS, 511, FLY_LOG, 0}};
+    static const one_call CONVERSIONS[] = {{&CASE_1, 0, 31, 0},
+                                           {&LIMITS, 0, FLY_MAX_BYTES + 1, 0},
+                                           {&LIMITS, 0, FLY_MAX_BYTES, FLY_SHORT_LOG},
+                                           {&LIMITS_TWO, 0, FLY_MAX_BYTES, 0},
+                                           {&LIMITS_ORIGINS, 0, FLY_MAX_BYTES, FLY_HAS_ORIGIN}};
+    size_t run = stack_of("the run", run_call, FULL, 4, FLY_RUN_STACK);
+    size_t short_log = stack_of("the short-log run", run_call, SHORT_LOGS, 7, FLY_SHORT_LOG_STACK);
     size_t sheet = stack_of("the sheet", sheet_call, FULL, 2, FLY_SHEET_STACK);
-    size_t standing = stack_of("the standing", stands_call, STANDINGS, 4, FLY_STANDS_STACK);
-    printf("stack: run %zu bytes, with a short log %zu bytes, sheet %zu bytes, standing %zu bytes\n", run, short_log, sheet, standing);
+    size_t standing = stack_of("the standing", stands_call, STANDINGS, 5, FLY_STANDS_STACK);
+    size_t conversion = stack_of("the conversion", convert_call, CONVERSIONS, 5, FLY_CONVERT_STACK);
+    printf("stack: run %zu bytes, with a short log %zu bytes, sheet %zu bytes, standing %zu bytes, conversion %zu bytes\n", run,
+           short_log, sheet, standing, conversion);
 }
 #else
 static void stack_use(void) {}
@@ -371,16 +501,17 @@ static void stack_use(void) {}
 
 int main(void) {
     make_bytes();
+    make_editions();
     make_log_and_sheet();
-    runs(&CASE_1, 19, FLY_LOG, FLY_SCRATCH + MORE, (fly_answer){0, 1, 8, 8, 17});
-    runs(&CASE_1, 17, 8, FLY_SCRATCH, (fly_answer){0, 1, 8, 8, 17});
+    runs(&CASE_1, 19, FLY_LOG, FLY_SCRATCH + MORE, ALL_1);
+    runs(&CASE_1, 17, 8, FLY_SCRATCH, ALL_1);
     runs(&CASE_1, 16, 8, FLY_SCRATCH, (fly_answer){0, 0, 8, 7, 16});
     runs(&CASE_1, 13, 8, FLY_SCRATCH, (fly_answer){0, 0, 6, 4, 11});
     runs(&CASE_1, 6, 8, FLY_SCRATCH, (fly_answer){0, 0, 0, 0, 0});
-    runs(&CASE_1, UINT32_MAX, 8, FLY_SCRATCH, (fly_answer){0, 1, 8, 8, 17});
+    runs(&CASE_1, UINT32_MAX, 8, FLY_SCRATCH, ALL_1);
     runs(&CASE_1, 19, 8, FLY_SCRATCH - 1, (fly_answer){FLY_SHORT_SCRATCH, 0, 0, 0, 0});
     runs(&CASE_1, 19, 0, 0, (fly_answer){FLY_SHORT_SCRATCH, 0, 0, 0, 0});
-    runs(&LIMITS, FLY_MAX_SPENT, FLY_LOG, FLY_SCRATCH, (fly_answer){0, 1, 2048, 2048, 20302});
+    runs(&LIMITS, FLY_MAX_SPENT, FLY_LOG, FLY_SCRATCH, ALL_LIMITS);
     short_logs();
     standings();
     refuses(&NOTHING, FLY_TRUNCATED);
@@ -392,6 +523,13 @@ int main(void) {
     prints(&NOTHING);
     prints(&CIRCLE);
     prints(&LIMITS);
+    prints(&OLD_ORIGINS);
+    edition_two();
+    no_edition(&CASE_1);
+    no_edition(&ORIGINS);
+    no_edition(&CIRCLE);
+    converts_both_ways(&CASE_1, &TWO, &ORIGINS);
+    converts_both_ways(&LIMITS, &LIMITS_TWO, &LIMITS_ORIGINS);
     together();
     stack_use();
     puts("promises kept");

@@ -1,4 +1,4 @@
-//! A slow engine, written from document 01 and from S-1 to S-3 of document 02, sentence by sentence. The quoted lines are the
+//! A slow engine, written from document 01 and from S-1 to S-3 and S-5 of document 02, sentence by sentence. The quoted lines are the
 //! documents' own. What is held is a `Vec<bool>` indexed by the number of a line, and every inference rule is a direct quantification
 //! over rules and antecedents.
 
@@ -33,6 +33,18 @@ pub struct Standing {
     pub standing: u32,
 }
 
+/// What a conversion answers, in the two numbers of flyrules.h. With a refusal the second is 0.
+#[repr(C)]
+#[derive(Clone, Copy, PartialEq, Eq, Debug)]
+pub struct Written {
+    pub refused: u32,
+    pub bytes: u32,
+}
+
+/// The editions in the numbers of flyrules.h: the old layout, and edition two.
+pub const OLD: u32 = 1;
+pub const TWO: u32 = 2;
+
 pub const FIRING: u32 = 0;
 pub const OUT: u32 = 1;
 pub const WAITING: u32 = 2;
@@ -60,21 +72,69 @@ fn word(bytes: &[u8], i: usize) -> usize {
     bytes[2 * i] as usize + 256 * bytes[2 * i + 1] as usize
 }
 
-/// The four sections as (left, right), in file order.
+/// "A rule has a kind (0 strict, 1 defeasible, 2 defeater), one head, and a set of antecedents, all literals." Document 02, S-5: "Rules
+/// gain an origin: 0 none, 1 house, 2 tour, 3 console."
+struct Rule {
+    kind: usize,
+    origin: usize,
+    head: usize,
+    body: Vec<usize>,
+}
+
+/// The four sections, in file order, as (left, right); of the rules the antecedents are still missing.
 struct Sections {
     a: usize,
     facts: Vec<(usize, usize)>,
-    rules: Vec<(usize, usize)>,
+    rules: Vec<Rule>,
     entries: Vec<(usize, usize)>,
     pairs: Vec<(usize, usize)>,
 }
 
+/// The edition as a deliberate fault takes it; without one, as it is told.
+fn mistaken(edition: u32) -> u32 {
+    if mutant(54) && edition != TWO {
+        OLD
+    } else if mutant(55) {
+        edition % 256
+    } else if mutant(56) {
+        edition % 65_536
+    } else {
+        edition
+    }
+}
+
+/// Document 02, S-5: "the first byte of the file is an added 2, followed by the old layout." "A first byte other than 2, or no byte, is
+/// 1." So is an edition that there is not (docs/DECISIONS.md).
+fn layout(bytes: &[u8], edition: u32) -> Result<&[u8], u32> {
+    match (edition, bytes) {
+        (OLD, _) => Ok(bytes),
+        (TWO, [2, layout @ ..]) => Ok(layout),
+        (TWO, [_, layout @ ..]) if mutant(52) => Ok(layout),
+        _ => Err(1),
+    }
+}
+
+/// A rule, its antecedents still missing. "left the kind, right the head"; document 02, S-5: "In edition two a rule's left word is
+/// kind + 4 × origin", "with kind read as the remainder by 4".
+fn rule(left: usize, head: usize, edition: u32) -> Rule {
+    let (kind, origin) = if edition == TWO && !mutant(47) {
+        (left % 4, left / 4)
+    } else if edition == OLD && mutant(51) {
+        (left % 4, 0)
+    } else {
+        (left, 0)
+    };
+    Rule { kind, origin, head, body: vec![] }
+}
+
 /// "Sizes come first: five 16-bit little-endian words A, F, N, B, P .. Let T = F+N+B+P. Then come two parallel arrays, left and
 /// right, each of T such words." Refusals 1 to 3 are met here, since nothing can be read of such a file.
-fn sections(bytes: &[u8]) -> Result<Sections, u32> {
-    // "1 stub: fewer than 10 bytes"
+fn sections(bytes: &[u8], edition: u32) -> Result<Sections, u32> {
+    let edition = mistaken(edition);
+    let bytes = layout(bytes, edition)?;
+    // "1 stub: fewer than 10 bytes"; document 02, S-5: "1 to 7 judged on the bytes after the first"
     if bytes.len() < 10 {
-        return Err(1);
+        return Err(if mutant(53) && edition == TWO && bytes.len() == 9 { 3 } else { 1 });
     }
     let [a, f, n, b, p] = [0, 1, 2, 3, 4].map(|i| word(bytes, i));
     // "2 oversize: one of the five sizes above its limit"; "At most A 512, F 1,024, N 1,024, B 4,096, P 2,048."
@@ -90,12 +150,13 @@ fn sections(bytes: &[u8]) -> Result<Sections, u32> {
     let part = |from: usize, count: usize| -> Vec<(usize, usize)> {
         (from..from + count).map(|i| (word(bytes, 5 + i), word(bytes, 5 + t + i))).collect()
     };
-    Ok(Sections { a, facts: part(0, f), rules: part(f, n), entries: part(f + n, b), pairs: part(f + n + b, p) })
+    let rules = part(f, n).into_iter().map(|(left, right)| rule(left, right, edition)).collect();
+    Ok(Sections { a, facts: part(0, f), rules, entries: part(f + n, b), pairs: part(f + n + b, p) })
 }
 
 /// "What the console turns away", 1 to 7; 0 for a table that is not. "The lowest number that applies anywhere in the table is given."
-pub fn judge(bytes: &[u8]) -> u32 {
-    let s = match sections(bytes) {
+pub fn judge(bytes: &[u8], edition: u32) -> u32 {
+    let s = match sections(bytes, edition) {
         Ok(s) => s,
         Err(number) => return number,
     };
@@ -104,13 +165,18 @@ pub fn judge(bytes: &[u8]) -> u32 {
     if mutant(12) && s.facts.iter().any(|&(_, q)| strange(q)) {
         return 5;
     }
-    // "4 kind: a fact's left not 0, or a rule's left above 2"
-    if s.facts.iter().any(|&(left, _)| left != 0) || s.rules.iter().any(|&(kind, _)| kind > 2) {
+    // "4 kind: a fact's left not 0, or a rule's left above 2"; document 02, S-5: "An origin above 3 is 4."
+    let bad_fact = |left: usize| left != 0 && !(mutant(50) && edition == TWO && left % 4 == 0);
+    let bad_rule = |r: &Rule| {
+        let bad_kind = r.kind > 2 && !(mutant(49) && edition == TWO && r.kind + 4 * r.origin <= 14);
+        bad_kind || r.origin > 3 && !(mutant(46) && r.origin == 4)
+    };
+    if s.facts.iter().any(|&(left, _)| bad_fact(left)) || s.rules.iter().any(bad_rule) {
         return 4;
     }
     // "5 stranger: a literal not below 2A, or a rule number not below N"
     if s.facts.iter().any(|&(_, q)| strange(q))
-        || s.rules.iter().any(|&(_, head)| strange(head))
+        || s.rules.iter().any(|r| strange(r.head))
         || s.entries.iter().any(|&(r, q)| r >= n || strange(q))
         || s.pairs.iter().any(|&(t, w)| t >= n || w >= n)
     {
@@ -149,13 +215,6 @@ fn leads_back(pairs: &[(usize, usize)], n: usize, r: usize) -> bool {
     false
 }
 
-/// "A rule has a kind (0 strict, 1 defeasible, 2 defeater), one head, and a set of antecedents, all literals."
-struct Rule {
-    kind: usize,
-    head: usize,
-    body: Vec<usize>,
-}
-
 /// A table that was accepted.
 struct Theory {
     a: usize,
@@ -170,14 +229,17 @@ struct Theory {
     with_head: Vec<Vec<usize>>,
 }
 
-fn theory(bytes: &[u8]) -> Theory {
-    let s = sections(bytes).ok().unwrap();
+fn theory(bytes: &[u8], edition: u32) -> Theory {
+    let s = sections(bytes, edition).ok().unwrap();
     let (a, f, n, b, p) = (s.a, s.facts.len(), s.rules.len(), s.entries.len(), s.pairs.len());
     let mut fact = vec![false; 2 * a];
     for &(_, q) in &s.facts {
         fact[q] = true;
     }
-    let mut rules: Vec<Rule> = s.rules.iter().map(|&(kind, head)| Rule { kind, head, body: vec![] }).collect();
+    let mut rules = s.rules;
+    if mutant(48) {
+        rules.iter_mut().for_each(|r| r.kind += 4 * r.origin);
+    }
     for &(r, q) in &s.entries {
         rules[r].body.push(q);
     }
@@ -224,7 +286,7 @@ impl Theory {
     }
 
     fn stronger(&self, t: usize, s: usize) -> bool {
-        self.over[t * self.rules.len() + s]
+        self.over[t * self.rules.len() + s] || mutant(58) && self.rules[t].origin == 1 && self.rules[s].origin == 2
     }
 
     /// all antecedents of r have the tag
@@ -410,26 +472,26 @@ fn refusal(number: u32) -> Answer {
 }
 
 /// The run, whatever is lent: refusals 1 to 7, then the work. "A refusal returns its number alone".
-pub fn run(bytes: &[u8], budget: u32) -> Run {
-    match judge(bytes) {
-        0 => theory(bytes).work(budget),
+pub fn run(bytes: &[u8], edition: u32, budget: u32) -> Run {
+    match judge(bytes, edition) {
+        0 => theory(bytes, edition).work(budget),
         number => (refusal(number), vec![]),
     }
 }
 
 /// The answer of a call whose run is this one: 8 and 9 come after 1 to 7.
-pub fn call(bytes: &[u8], (answer, lines): &Run, log_len: usize, scratch_len: usize) -> Answer {
+pub fn call(bytes: &[u8], edition: u32, (answer, lines): &Run, log_len: usize, scratch_len: usize) -> Answer {
     if answer.refused != 0 {
         return *answer;
     }
     // Document 02, S-2: "A log shorter than 4A words is accepted if it holds all lines written by the end of the run under the given
     // budget. Otherwise 9 is given as before". One of 4A words holds every line that there can be.
     let needed = if mutant(21) {
-        4 * word(bytes, 0)
+        4 * theory(bytes, edition).a
     } else if mutant(22) {
         answer.worked as usize
     } else if mutant(23) {
-        theory(bytes).work(u32::MAX).1.len()
+        theory(bytes, edition).work(u32::MAX).1.len()
     } else {
         lines.len()
     };
@@ -445,15 +507,15 @@ pub fn call(bytes: &[u8], (answer, lines): &Run, log_len: usize, scratch_len: us
 }
 
 /// "The sheet": "reads standard input (at most 32,779 bytes, a longer input judged on those), runs with budget 5A+F+N+3B+3P, and
-/// prints." Every line ends in a line feed (docs/DECISIONS.md, The sheet).
+/// prints." Every line ends in a line feed (docs/DECISIONS.md, The sheet). Document 02, S-5: "`sheet` reads the old layout."
 pub fn sheet(bytes: &[u8]) -> String {
     let bytes = &bytes[..bytes.len().min(32_779)];
     // "A refused table prints `refused` and its number, one line, as `refused 7`."
-    let number = judge(bytes);
+    let number = judge(bytes, OLD);
     if number != 0 {
         return format!("refused {number}\n");
     }
-    let theory = theory(bytes);
+    let theory = theory(bytes, OLD);
     let (answer, log) = theory.work(theory.bound as u32);
     let has = |q: usize, tag: usize| log.contains(&(line(q, tag) as u16));
     // "first the atom count, then atom and verdict, then spent and bound"
@@ -480,8 +542,8 @@ pub fn sheet(bytes: &[u8]) -> String {
 
 /// The antecedents of a rule by the entries, "left a rule, right an antecedent"; none for a number that no entry has, or for a table that
 /// cannot be read.
-pub fn antecedents(bytes: &[u8], rule: u32) -> Vec<usize> {
-    let entries = sections(bytes).map_or(vec![], |s| s.entries);
+pub fn antecedents(bytes: &[u8], edition: u32, rule: u32) -> Vec<usize> {
+    let entries = sections(bytes, edition).map_or(vec![], |s| s.entries);
     entries.into_iter().filter(|&(r, _)| r == rule as usize).map(|(_, q)| q).collect()
 }
 
@@ -521,22 +583,72 @@ fn misread(a: usize, log: &[u16]) -> Vec<u16> {
 
 /// How a rule stands in a table that `judge` gives this number. Refusals 1 to 7 are the table's; then comes "5 stranger: .. a rule number
 /// not below N".
-pub fn stands(bytes: &[u8], judged: u32, rule: u32, log: &[u16]) -> Standing {
+pub fn stands(bytes: &[u8], edition: u32, judged: u32, rule: u32, log: &[u16]) -> Standing {
+    let (edition, judged) = if mutant(57) { (OLD, judge(bytes, OLD)) } else { (edition, judged) };
     let refusal = |number: u32| Standing { refused: number, standing: if mutant(42) { WAITING } else { 0 } };
     let rule = if mutant(34) { rule % 65_536 } else { rule };
-    let strange = sections(bytes).is_ok_and(|s| rule as usize >= s.rules.len());
+    let read = sections(bytes, edition);
+    let strange = read.as_ref().is_ok_and(|s| rule as usize >= s.rules.len());
     if judged != 0 && !(mutant(35) && strange) {
         return refusal(judged);
     }
     if strange && !mutant(33) {
         return refusal(5);
     }
-    Standing { refused: 0, standing: standing(&antecedents(bytes, rule), &misread(word(bytes, 0), log)) }
+    let a = read.map_or(0, |s| s.a);
+    Standing { refused: 0, standing: standing(&antecedents(bytes, edition, rule), &misread(a, log)) }
+}
+
+/// The file of an edition that says what an accepted table says, its rules with origin 0.
+fn file(theory: &Theory, edition: u32) -> Vec<u8> {
+    let (a, rules) = (theory.a, &theory.rules);
+    // "facts: left 0, right a literal. Right rises strictly."
+    let facts: Vec<_> = (0..2 * a).filter(|&q| theory.fact[q]).map(|q| (0, q)).collect();
+    // "rules, numbered from 0: left the kind, right the head"; in edition two kind + 4 × 0, which is the same
+    let heads = rules.iter().map(|r| (r.kind + 4 * mutant(63) as usize, r.head)).collect();
+    // "entries: left a rule, right an antecedent", "pairs: left the stronger rule, right the weaker", both in the table's own order, since
+    // they "rise strictly by left, then right" in no other
+    let entries = (0..rules.len()).flat_map(|r| rules[r].body.iter().map(move |&q| (r, q))).collect();
+    let sections = [facts, heads, entries, theory.pairs.clone()];
+    // "Sizes come first .. Then come two parallel arrays, left and right"
+    let (sizes, places) = (sections.iter().map(Vec::len), sections.concat());
+    let (left, right) = (places.iter().map(|e| e.0), places.iter().map(|e| e.1));
+    let words = [a].into_iter().chain(sizes).chain(left).chain(right);
+    // "the first byte of the file is an added 2"
+    let first = (edition == TWO).then_some(2);
+    first.into_iter().chain(words.flat_map(|w| (w as u16).to_le_bytes())).collect()
+}
+
+/// Document 02, S-5: "A converter goes from old layout to edition two with origin 0, and back, each way giving the unique file with the
+/// same A, facts, kinds, heads, antecedents and pairs." The answer ("one that writes a table answers with its byte count") and the file,
+/// no bytes with a refusal.
+pub fn convert(bytes: &[u8], edition: u32, out_len: usize) -> (Written, Vec<u8>) {
+    let refusal = |number: u32| (Written { refused: number, bytes: 0 }, vec![]);
+    let judged = judge(bytes, edition);
+    if mutant(60) && out_len < 10 {
+        return refusal(9);
+    }
+    if judged != 0 && !(mutant(64) && judged == 7) {
+        return refusal(judged);
+    }
+    let theory = theory(bytes, edition);
+    let file = file(&theory, if edition == OLD { TWO } else { OLD });
+    // "A converter's output shorter than the new file is 9, after 1 to 7 and before 10"
+    let short = out_len < if mutant(61) { bytes.len() } else { file.len() };
+    // "10, a non-zero origin on the way back"
+    let has_origin = theory.rules.iter().any(|r| r.origin != 0);
+    if short && !(mutant(59) && has_origin) {
+        return (Written { refused: 9, bytes: if mutant(66) { file.len() as u32 } else { 0 } }, vec![]);
+    }
+    if has_origin && !mutant(62) {
+        return refusal(10);
+    }
+    (Written { refused: 0, bytes: if mutant(65) { bytes.len() } else { file.len() } as u32 }, file)
 }
 
 /// Whether some rule of an accepted table has +∂ of all its antecedents and −∂ of one among these lines.
-pub fn fires_and_is_out(bytes: &[u8], lines: &[u16]) -> bool {
-    let theory = theory(bytes);
+pub fn fires_and_is_out(bytes: &[u8], edition: u32, lines: &[u16]) -> bool {
+    let theory = theory(bytes, edition);
     let mut held = vec![false; 8 * theory.a];
     for &l in lines {
         held[l as usize] = true;
@@ -545,7 +657,7 @@ pub fn fires_and_is_out(bytes: &[u8], lines: &[u16]) -> bool {
 }
 
 /// The bound "5A+F+N+3B+3P" and Size of an accepted table, for choosing budgets.
-pub fn bound_and_size(bytes: &[u8]) -> (u32, u32) {
-    let t = theory(bytes);
+pub fn bound_and_size(bytes: &[u8], edition: u32) -> (u32, u32) {
+    let t = theory(bytes, edition);
     (t.bound as u32, t.size as u32)
 }

@@ -1,4 +1,7 @@
-//! Seeded tables for the comparison: legal ones of many shapes, damaged ones, and bytes that were never a table; and logs to read.
+//! Seeded tables for the comparison, in both editions: legal ones of many shapes, damaged ones, and bytes that were never a table; and
+//! logs to read.
+
+use crate::slow::{OLD, TWO};
 
 /// splitmix64
 pub struct Rng(pub u64);
@@ -42,13 +45,36 @@ impl Rng {
 
 pub const LIMITS: [usize; 5] = [512, 1_024, 1_024, 4_096, 2_048];
 
+/// A file, and the edition that a call is told of it.
+#[derive(Clone)]
+pub struct Table {
+    pub edition: u32,
+    pub bytes: Vec<u8>,
+}
+
+impl Table {
+    /// The file of an edition with this layout.
+    pub fn of(edition: u32, layout: &[u8]) -> Table {
+        let first: &[u8] = if edition == TWO { &[2] } else { &[] };
+        Table { edition, bytes: [first, layout].concat() }
+    }
+
+    /// The bytes that the sizes begin, as far as there are any.
+    pub fn layout(&self) -> &[u8] {
+        let first = (self.edition == TWO) as usize;
+        &self.bytes[first.min(self.bytes.len())..]
+    }
+}
+
 type Entry = (u16, u16);
 
-/// A table as sections of (left, right): facts, rules, antecedent entries, pairs.
+/// A table as sections of (left, right): facts, rules, antecedent entries, pairs. The left word of a rule is its kind, and its origin
+/// stands apart.
 #[derive(Clone, Default)]
 pub struct Draft {
     pub a: usize,
     pub sections: [Vec<Entry>; 4],
+    pub origins: Vec<u16>,
 }
 
 const FACTS: usize = 0;
@@ -72,6 +98,7 @@ impl Draft {
     pub fn rule(&mut self, kind: usize, head: usize, body: &[usize]) -> usize {
         let r = self.n();
         self.sections[RULES].push((kind as u16, head as u16));
+        self.origins.push(0);
         self.sections[ENTRIES].extend(body.iter().map(|&q| (r as u16, q as u16)));
         r
     }
@@ -96,13 +123,48 @@ impl Draft {
         }
     }
 
-    pub fn bytes(&self) -> Vec<u8> {
-        let all: Vec<Entry> = self.sections.concat();
+    /// The file in an edition. The old layout has no place for origins.
+    pub fn table(&self, edition: u32) -> Table {
+        Table::of(edition, &self.layout(edition))
+    }
+
+    fn layout(&self, edition: u32) -> Vec<u8> {
+        let mut sections = self.sections.clone();
+        if edition == TWO {
+            for (rule, origin) in sections[RULES].iter_mut().zip(&self.origins) {
+                rule.0 = rule.0.wrapping_add(4 * origin);
+            }
+        }
+        let all: Vec<Entry> = sections.concat();
         let mut words = vec![self.a as u16];
-        words.extend(self.sections.iter().map(|s| s.len() as u16));
+        words.extend(sections.iter().map(|s| s.len() as u16));
         words.extend(all.iter().map(|e| e.0));
         words.extend(all.iter().map(|e| e.1));
         words.iter().flat_map(|w| w.to_le_bytes()).collect()
+    }
+
+    /// Origins for the rules: any, one for all, one for a single rule, or none.
+    fn give_origins(&mut self, r: &mut Rng) {
+        let (style, origin, single) = (r.below(4), r.within(1, 3), r.below(self.n()));
+        for i in 0..self.n() {
+            self.origins[i] = match style {
+                0 => r.below(4),
+                1 => origin,
+                2 if i == single => origin,
+                _ => 0,
+            } as u16;
+        }
+    }
+
+    pub fn without_origins(&self) -> Draft {
+        Draft { origins: vec![0; self.n()], ..self.clone() }
+    }
+
+    /// A table that is done: in order, and with origins.
+    fn done(mut self, r: &mut Rng) -> Draft {
+        self.tidy();
+        self.give_origins(r);
+        self
     }
 
     /// Pairs without a circle: each goes down a random order of the rules. Opposed heads with chance `opposed` of 12, others with
@@ -379,7 +441,7 @@ pub const SMALL_SHAPES: usize = 12;
 
 /// A small legal table.
 pub fn small(r: &mut Rng) -> Draft {
-    let mut d = match r.below(SMALL_SHAPES) {
+    let d = match r.below(SMALL_SHAPES) {
         0 => Draft::atoms(if r.chance(1, 3) { 0 } else { r.below(20) }),
         1 => facts_only(r),
         2 | 3 | 4 => random_small(r),
@@ -391,13 +453,12 @@ pub fn small(r: &mut Rng) -> Draft {
         10 => deep_pairs(r),
         _ => idle_pairs(r),
     };
-    d.tidy();
-    d
+    d.done(r)
 }
 
 /// A legal table of some dozens of atoms and rules.
 pub fn medium(r: &mut Rng) -> Draft {
-    let mut d = if r.chance(1, 6) {
+    let d = if r.chance(1, 6) {
         crowd(r, 50)
     } else {
         let (a, n, longest) = (r.within(6, 40), r.within(10, 90), r.within(1, 4));
@@ -406,8 +467,7 @@ pub fn medium(r: &mut Rng) -> Draft {
         d.some_pairs(r, count, 2);
         d
     };
-    d.tidy();
-    d
+    d.done(r)
 }
 
 pub const BIG_SHAPES: usize = 10;
@@ -501,8 +561,7 @@ pub fn big(r: &mut Rng, shape: usize) -> Draft {
             }
         }
     }
-    d.tidy();
-    d
+    d.done(r)
 }
 
 /// A large random legal table within the limits.
@@ -516,11 +575,10 @@ pub fn large(r: &mut Rng) -> Draft {
     let mut d = random(r, a, n, longest);
     let count = r.below(LIMITS[4]);
     d.some_pairs(r, count, 1);
-    d.tidy();
-    d
+    d.done(r)
 }
 
-pub const FAULTS: usize = 13;
+pub const FAULTS: usize = 14;
 
 /// One fault in the sections. Not every fault makes the table illegal, and a fault in an empty section may do nothing.
 pub fn fault(r: &mut Rng, d: &mut Draft, which: usize) {
@@ -534,12 +592,12 @@ pub fn fault(r: &mut Rng, d: &mut Draft, which: usize) {
     match which {
         0 => {
             if let Some(i) = place(d, FACTS) {
-                d.sections[FACTS][i].0 = r.pick(&[1, 2, 255, 256, 65_535]);
+                d.sections[FACTS][i].0 = r.pick(&[1, 2, 4, 255, 256, 65_535]);
             }
         }
         1 => {
             if let Some(i) = place(d, RULES) {
-                d.sections[RULES][i].0 = r.pick(&[3, 3, 4, 255, 256, 257, 65_535]);
+                d.sections[RULES][i].0 = r.pick(&[3, 3, 3, 4, 14, 15, 16, 17, 18, 255, 256, 257, 65_535]);
             }
         }
         2 => match place(d, FACTS) {
@@ -606,6 +664,12 @@ pub fn fault(r: &mut Rng, d: &mut Draft, which: usize) {
                 *(if sorted { &mut e.0 } else { &mut e.1 }) = new;
             }
         }
+        // an origin beside the kind: wrong in the old layout, added to the rule's own in edition two
+        12 => {
+            if let Some(i) = place(d, RULES) {
+                d.sections[RULES][i].0 |= 4 * r.within(1, 4) as u16;
+            }
+        }
         // a section turned round, or two entries far apart swapped
         _ => {
             let s = r.pick(&[FACTS, ENTRIES, PAIRS]);
@@ -620,7 +684,7 @@ pub fn fault(r: &mut Rng, d: &mut Draft, which: usize) {
     }
 }
 
-/// One fault in the bytes: bytes, words, sizes or the length.
+/// One fault in the bytes of a layout: bytes, words, sizes or the length.
 pub fn byte_fault(r: &mut Rng, bytes: &mut Vec<u8>) {
     match r.below(6) {
         0 | 1 => {
@@ -670,23 +734,46 @@ pub fn byte_fault(r: &mut Rng, bytes: &mut Vec<u8>) {
     }
 }
 
-/// A legal table with one to three faults.
-pub fn damaged(r: &mut Rng, mut d: Draft) -> Vec<u8> {
+/// A fault in the first byte: that of edition two in front of the old layout; in edition two another, none, or one too many.
+fn first_byte_fault(r: &mut Rng, t: &mut Table) {
+    let any = r.next() as u8;
+    match r.below(3) {
+        _ if t.edition == OLD => t.bytes.insert(0, 2),
+        0 => t.bytes = t.layout().to_vec(),
+        1 => t.bytes.insert(0, 2),
+        _ => t.bytes[0] = r.pick(&[0, 1, 3, 6, 18, 130, 255, any]),
+    }
+}
+
+/// A legal table with one to three faults, and with one in the first byte at times.
+pub fn damaged(r: &mut Rng, mut d: Draft, edition: u32) -> Table {
     let count = r.pick(&[1, 1, 1, 2, 2, 3]);
     let of_bytes = r.pick(&[0, 0, 0, 1, 2]).min(count);
     for _ in of_bytes..count {
         let which = r.below(FAULTS);
         fault(r, &mut d, which);
     }
-    let mut bytes = d.bytes();
+    let mut layout = d.layout(edition);
     for _ in 0..of_bytes {
-        byte_fault(r, &mut bytes);
+        byte_fault(r, &mut layout);
     }
-    bytes
+    let mut t = Table::of(edition, &layout);
+    if r.chance(1, 24) {
+        first_byte_fault(r, &mut t);
+    }
+    t
 }
 
 /// Bytes that were never a table: any bytes, or small sizes with small words behind them, of the right length or nearly.
-pub fn noise(r: &mut Rng) -> Vec<u8> {
+pub fn noise(r: &mut Rng, edition: u32) -> Table {
+    let layout = noise_bytes(r);
+    if r.chance(1, 8) {
+        return Table { edition, bytes: layout };
+    }
+    Table::of(edition, &layout)
+}
+
+fn noise_bytes(r: &mut Rng) -> Vec<u8> {
     match r.below(4) {
         0 => (0..r.below(120)).map(|_| r.next() as u8).collect(),
         1 => (0..r.below(60)).map(|_| r.below(3) as u8).collect(),

@@ -22,13 +22,29 @@ pub const SCRATCH: usize = 8;
 
 pub const BYTE: usize = 9;
 
-const CAME: usize = 10;
+pub const FACT: usize = 10;
 
-const WANTED: usize = 11;
+pub const KIND: usize = 11;
+
+pub const ORIGIN: usize = 12;
+
+pub const HEAD: usize = 13;
+
+pub const RULE: usize = 14;
+
+pub const LITERAL: usize = 15;
+
+pub const STRONGER: usize = 16;
+
+pub const WEAKER: usize = 17;
+
+const CAME: usize = 18;
+
+const WANTED: usize = 19;
 
 // 9 bytes each.
-const NAMES: [u8; 108] =
-    *b"   judged  refused finished    lines   worked    spent   length      log  scratch     byte     came   wanted";
+const NAMES: [u8; 180] =
+    *b"   judged  refused finished    lines   worked    spent   length      log  scratch     byte     fact     kind   origin     head     rule  literal stronger   weaker     came   wanted";
 
 // The place is the index of a word or a byte, 0 for a number.
 pub struct Difference {
@@ -47,7 +63,7 @@ pub fn print_number(text: &[u8], n: usize) {
 
 fn print_named(name: usize, n: usize) {
     let names = NAMES;
-    let from = 9 * (name % 12);
+    let from = 9 * (name % 20);
     let to = from + 9;
     print_number(&names[from..to], n);
 }

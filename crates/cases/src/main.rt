@@ -3,12 +3,14 @@
 // its place, what came and what was wanted.
 mod difference;
 mod noise;
+mod readers;
 mod records;
 mod runs;
 mod stream;
 
 use difference::print_number;
 use libc::STDOUT_FILENO;
+use table::edition::Edition;
 
 // More records than any file has.
 const LIMIT: u32 = 65536;
@@ -17,8 +19,11 @@ const LIMIT: u32 = 65536;
 pub enum Layout {
     Base,
     Runs,
+    Told,
     Bodies,
+    Readers,
     Sheets,
+    Conversions,
 }
 
 // Whether a record, whose table has n bytes, gives what it must.
@@ -27,9 +32,12 @@ fn is_same(file: &[u8], layout: Layout, fd: i32, record: u32, n: u32) -> bool {
     let table = stream::front(&buffer, n);
     let d = match layout {
         Layout::Base => records::base_differs(fd, record, table),
-        Layout::Runs => records::fields_differ(fd, record, table),
+        Layout::Runs => records::fields_differ(fd, record, table, Edition::Old),
+        Layout::Told => records::told_differ(fd, record, table),
         Layout::Bodies => records::body_differs(fd, table),
+        Layout::Readers => readers::readers_differ(fd, table),
         Layout::Sheets => records::sheet_differs(fd, table),
+        Layout::Conversions => records::conversion_differs(fd, record, table),
     };
     d.is_none(file, record)
 }
@@ -66,7 +74,11 @@ fn main() {
     try_file(b"base.bin", Layout::Base, false);
     try_file(b"made.bin", Layout::Runs, true);
     try_file(b"short-logs.bin", Layout::Runs, true);
+    try_file(b"told.bin", Layout::Told, true);
     try_file(b"bodies.bin", Layout::Bodies, true);
+    try_file(b"readers.bin", Layout::Readers, true);
     try_file(b"sheets-S1.bin", Layout::Sheets, true);
     try_file(b"longest.bin", Layout::Sheets, true);
+    try_file(b"editions.bin", Layout::Conversions, true);
+    try_file(b"conversions.bin", Layout::Conversions, true);
 }

@@ -13,12 +13,14 @@ use crate::noise::noisy;
 use crate::stream::word;
 use engine::answer::Numbers;
 use engine::run::run;
+use table::edition::Edition;
 use table::judge::Judgement;
 use table::judge::judge;
 
-// A run: the budget and how many words of log and of scratch are borrowed; what must come out, the number of the refusal or 0, 1 where
-// the run finishes, and the counts; and how many words of log follow in the file.
+// A run: the edition, the budget and how many words of log and of scratch are borrowed; what must come out, the number of the refusal or
+// 0, 1 where the run finishes, and the counts; and how many words of log follow in the file.
 pub struct Run {
+    pub edition: Edition,
     pub budget: u32,
     pub log: u32,
     pub scratch: u32,
@@ -31,8 +33,8 @@ pub struct Run {
 }
 
 // The number of a table's refusal, or 0.
-fn judged(table: &[u8]) -> u32 {
-    let j = judge(table);
+fn judged(table: &[u8], edition: Edition) -> u32 {
+    let j = judge(table, edition);
     match j {
         Judgement::Accepted(_) => 0,
         Judgement::Refused(why) => why.number() as u32,
@@ -102,8 +104,15 @@ pub fn run_differs(fd: i32, record: u32, table: &[u8], want: Run) -> Difference 
     let mut scratch = noisy(scratch_seed);
     let n = (want.log % 65536) as usize;
     let k = (want.scratch % 65536) as usize;
-    let answer = run(table, want.budget, &mut log[0..n], &mut scratch[0..k]);
-    let d = compare_numbers(judged(table), answer.numbers(), want);
+    let edition = want.edition;
+    let answer = run(
+        table,
+        edition,
+        want.budget,
+        &mut log[0..n],
+        &mut scratch[0..k],
+    );
+    let d = compare_numbers(judged(table, edition), answer.numbers(), want);
     let d = compare_words(d, LOG, &log, fd, want.words, log_seed);
     compare_words(
         d,

@@ -26,12 +26,17 @@ pub fn number(fd: i32) -> u32 {
     long(fd)
 }
 
-// The next n bytes, and zeros past them.
-pub fn bytes(fd: i32, n: u32) -> [u8; 65536] {
-    let mut buffer = io::large_buffer();
+// The next n bytes, in place of the first of a buffer.
+pub fn bytes_over(buffer: [u8; 65536], fd: i32, n: u32) -> [u8; 65536] {
+    let mut buffer = buffer;
     let k = (n % 65536) as usize;
     io::read_full(fd, &mut buffer[0..k]);
     buffer
+}
+
+// The next n bytes, and zeros past them.
+pub fn bytes(fd: i32, n: u32) -> [u8; 65536] {
+    bytes_over(io::large_buffer(), fd, n)
 }
 
 // The first n of such bytes.
@@ -39,4 +44,9 @@ pub fn front(buffer: &[u8; 65536], n: u32) -> &[u8] {
     let all: &[u8] = buffer;
     let k = (n % 65536) as usize;
     &all[0..k]
+}
+
+// All of them.
+pub fn all(buffer: &[u8; 65536]) -> &[u8] {
+    buffer
 }

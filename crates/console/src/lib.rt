@@ -1,25 +1,38 @@
-// The functions that a console written in C links (include/flyrules.h), on numbers and slices alone. Each calls one proved function,
-// whose contract is handed on whole.
+// The functions that a console written in C links (include/flyrules.h), on numbers and slices alone. Each calls one proved function in the
+// edition that it is told, whose contract is handed on whole.
+mod told;
+
 ghost use mathlib.Core.Path.{_≡_};
-ghost use Rattle.engine.specs.Answers.{Ran};
 ghost use Rattle.report.specs.Sheet.{Printed};
-ghost use Rattle.standing.specs.Answers.{standingOf};
+ghost use Rattle.console.specs.Told.{toldBy, RanTold, standingTold, ConvertedTold};
+use convert::answer::Written;
+use convert::answer::WrittenNumbers;
+use convert::convert::convert;
+use engine::answer::Answer;
 use engine::answer::Numbers;
 use engine::run::run;
 use report::sheet::sheet_of;
+use standing::answer::StandingAnswer;
 use standing::answer::StandingNumbers;
 use standing::stands::stands;
+use table::judge::Refusal;
+use told::Told;
+use told::told_by;
 
 #[no_mangle]
 pub extern "C" fn fly_run(
     table: &[u8],
+    edition: u32,
     budget: u32,
     log: &mut [u16],
     scratch: &mut [u16],
 ) -> Numbers
-    ensures { λ r. ⌜ Ran (now (table .entry)) budget (now (log .entry)) (now (log .exit)) (now (scratch .entry)) (now (scratch .exit)) r ⌝ }
+    ensures { λ r. ⌜ RanTold (toldBy edition) (now (table .entry)) budget (now (log .entry)) (now (log .exit)) (now (scratch .entry)) (now (scratch .exit)) r ⌝ }
 {
-    run(table, budget, log, scratch).numbers()
+    match told_by(edition) {
+        Told::Known(e) => run(table, e, budget, log, scratch).numbers(),
+        Told::Unknown => Answer::Refused(Refusal::Truncated).numbers(),
+    }
 }
 
 #[no_mangle]
@@ -33,8 +46,21 @@ pub extern "C" fn fly_sheet(table: &[u8], out: &mut [u8; 5041]) -> u32
 }
 
 #[no_mangle]
-pub extern "C" fn fly_stands(table: &[u8], rule: u32, log: &[u16]) -> StandingNumbers
-    ensures { λ r. ⌜ r ≡ standingOf (now (table .entry)) rule (now (log .entry)) ⌝ }
+pub extern "C" fn fly_stands(table: &[u8], edition: u32, rule: u32, log: &[u16]) -> StandingNumbers
+    ensures { λ r. ⌜ r ≡ standingTold (toldBy edition) (now (table .entry)) rule (now (log .entry)) ⌝ }
 {
-    stands(table, rule, log).numbers()
+    match told_by(edition) {
+        Told::Known(e) => stands(table, e, rule, log).numbers(),
+        Told::Unknown => StandingAnswer::Refused(Refusal::Truncated).numbers(),
+    }
+}
+
+#[no_mangle]
+pub extern "C" fn fly_convert(table: &[u8], edition: u32, out: &mut [u8]) -> WrittenNumbers
+    ensures { λ r. ⌜ ConvertedTold (toldBy edition) (now (table .entry)) (now (out .entry)) (now (out .exit)) r ⌝ }
+{
+    match told_by(edition) {
+        Told::Known(e) => convert(table, e, out).numbers(),
+        Told::Unknown => Written::Refused(Refusal::Truncated).numbers(),
+    }
 }

@@ -1,3 +1,4 @@
 -- Laws of answers.
 pub mod Numbering
 pub mod Buffers
+pub mod Sameness

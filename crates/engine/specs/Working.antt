@@ -12,9 +12,8 @@ use Rattle.logic.specs.Worklist.{Outcome, logOf, lines, grow, initial}
 use Rattle.logic.specs.Reading.{heads}
 use Rattle.logic.specs.Plain.{plainSystem}
 use Rattle.table.specs.declared.format.Sizes.{Sizes}
-use Rattle.table.specs.declared.judge.Judgement.the-variants.{Accepted}
 use Rattle.table.specs.Format.{theoryIn}
-use Rattle.table.specs.Refusals.{judgementOf}
+use Rattle.table.specs.Refusals.{Legal}
 use Rattle.engine.specs.declared.answer.Answer.{Answer}
 use Rattle.memory.specs.Layout.{tagCount, memorySize}
 use Rattle.memory.specs.Memory.{heldOf, writtenOf, Ready}
@@ -75,7 +74,7 @@ pub record Opened (d : Theory) (mem log mem′ log′ : List ℕ) (n : ℕ) : Ty
 
 -- A run whose start is paid, of an accepted table, and with words enough for its memory.
 pub record Paid (b : List ℕ) (s : Sizes) (budget start : ℕ) (mem : List ℕ) : Type 0 where
-  pub accepted : judgementOf b ≡ Accepted s
+  pub accepted : Legal b s
   pub size : start ≡ size (theoryIn b s)
   pub within : start ≤ budget
   pub words : memorySize ≤ length mem

@@ -1,4 +1,5 @@
-// The run of a table under a budget, in buffers that the caller lends. What is refused writes nothing.
+// The run of a table under a budget, in buffers that the caller lends. What is refused writes nothing. Past the judgement a table is its
+// layout, here and in every other file of this crate: editions end in `run`.
 ghost use Prim.Native.Nat.{_+_, _*_, _≤_};
 ghost use mathlib.Core.Path.{_≡_};
 ghost use mathlib.Core.List.{_++_};
@@ -6,8 +7,8 @@ ghost use lib.ListN.{length, take, drop};
 ghost use Rattle.logic.specs.Worklist.{run};
 ghost use Rattle.logic.specs.Plain.{plainSystem};
 ghost use Rattle.table.specs.declared.judge.Judgement.the-variants.{Accepted};
-ghost use Rattle.table.specs.Format.{theoryIn};
-ghost use Rattle.table.specs.Refusals.{judgementOf};
+ghost use Rattle.table.specs.Format.{theoryIn, theoryOf};
+ghost use Rattle.table.specs.Refusals.{judgementOf, Legal};
 ghost use Rattle.engine.specs.declared.answer.Answer.the-variants.{Refused};
 ghost use Rattle.engine.specs.Answers.{numbersOf, Ran};
 ghost use Rattle.engine.specs.Working.{Paid, Worked};
@@ -18,6 +19,8 @@ use crate::work::write_initial;
 use memory::layout::MEMORY_SIZE;
 use memory::prepare::clear;
 use memory::prepare::prepare;
+use table::edition::Edition;
+use table::edition::layout;
 use table::format::Sizes;
 use table::judge::Judgement;
 use table::judge::Refusal;
@@ -82,7 +85,7 @@ fn run_copied(
     start: u32,
 ) -> Answer
     requires { ⌜ Paid (now table) s budget start (now scratch) × (memorySize ≤ length (now mem)) × (tagCount * s .atoms ≤ length (now draft)) ⌝ }
-    ensures { λ r. ⌜ Ran (now (table .entry)) budget (now (log .entry)) (now (log .exit)) (now (scratch .entry)) (now (scratch .exit)) (numbersOf r) ⌝ }
+    ensures { λ r. ⌜ Ran (Accepted s) (theoryIn (now (table .entry)) s) budget (now (log .entry)) (now (log .exit)) (now (scratch .entry)) (now (scratch .exit)) (numbersOf r) ⌝ }
 {
     let answer = run_started(table, s, budget, draft, mem, start);
     let lines = answer.numbers().lines as usize;
@@ -104,7 +107,7 @@ fn run_apart(
     start: u32,
 ) -> Answer
     requires { ⌜ Paid (now table) s budget start (now scratch) ⌝ }
-    ensures { λ r. ⌜ Ran (now (table .entry)) budget (now (log .entry)) (now (log .exit)) (now (scratch .entry)) (now (scratch .exit)) (numbersOf r) ⌝ }
+    ensures { λ r. ⌜ Ran (Accepted s) (theoryIn (now (table .entry)) s) budget (now (log .entry)) (now (log .exit)) (now (scratch .entry)) (now (scratch .exit)) (numbersOf r) ⌝ }
 {
     let mut draft = [0u16; 4 * Sizes::MAX_ATOMS as usize];
     let mut mem = [0u16; SCRATCH];
@@ -122,7 +125,7 @@ fn run_short(
     start: u32,
 ) -> Answer
     requires { ⌜ Paid (now table) s budget start (now scratch) ⌝ }
-    ensures { λ r. ⌜ Ran (now (table .entry)) budget (now (log .entry)) (now (log .exit)) (now (scratch .entry)) (now (scratch .exit)) (numbersOf r) ⌝ }
+    ensures { λ r. ⌜ Ran (Accepted s) (theoryIn (now (table .entry)) s) budget (now (log .entry)) (now (log .exit)) (now (scratch .entry)) (now (scratch .exit)) (numbersOf r) ⌝ }
 {
     if SCRATCH < scratch.len() {
         return run_short(table, s, budget, log, &mut scratch[0..SCRATCH], start);
@@ -132,8 +135,8 @@ fn run_short(
 
 // The run of an accepted table. It leaves the scratch cleared.
 fn run_accepted(table: &[u8], s: Sizes, budget: u32, log: &mut [u16], scratch: &mut [u16]) -> Answer
-    requires { ⌜ judgementOf (now table) ≡ Accepted s ⌝ }
-    ensures { λ r. ⌜ Ran (now (table .entry)) budget (now (log .entry)) (now (log .exit)) (now (scratch .entry)) (now (scratch .exit)) (numbersOf r) ⌝ }
+    requires { ⌜ Legal (now table) s ⌝ }
+    ensures { λ r. ⌜ Ran (Accepted s) (theoryIn (now (table .entry)) s) budget (now (log .entry)) (now (log .exit)) (now (scratch .entry)) (now (scratch .exit)) (numbersOf r) ⌝ }
 {
     if scratch.len() < SCRATCH {
         return refuse(Refusal::ShortScratch, log, scratch);
@@ -156,11 +159,17 @@ fn run_accepted(table: &[u8], s: Sizes, budget: u32, log: &mut [u16], scratch: &
     answer
 }
 
-pub fn run(table: &[u8], budget: u32, log: &mut [u16], scratch: &mut [u16]) -> Answer
-    ensures { λ r. ⌜ Ran (now (table .entry)) budget (now (log .entry)) (now (log .exit)) (now (scratch .entry)) (now (scratch .exit)) (numbersOf r) ⌝ }
+pub fn run(
+    table: &[u8],
+    edition: Edition,
+    budget: u32,
+    log: &mut [u16],
+    scratch: &mut [u16],
+) -> Answer
+    ensures { λ r. ⌜ Ran (judgementOf edition (now (table .entry))) (theoryOf edition (now (table .entry))) budget (now (log .entry)) (now (log .exit)) (now (scratch .entry)) (now (scratch .exit)) (numbersOf r) ⌝ }
 {
-    match judge(table) {
-        Judgement::Accepted(s) => run_accepted(table, s, budget, log, scratch),
+    match judge(table, edition) {
+        Judgement::Accepted(s) => run_accepted(layout(table, edition), s, budget, log, scratch),
         Judgement::Refused(n) => refuse(n, log, scratch),
     }
 }

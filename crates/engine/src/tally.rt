@@ -3,9 +3,8 @@
 ghost use mathlib.Core.Path.{_≡_};
 ghost use mathlib.Core.Bool.{true, false};
 ghost use Prim.Native.Nat.{_*_, _/_, _<_};
-ghost use Rattle.table.specs.declared.judge.Judgement.the-variants.{Accepted};
 ghost use Rattle.table.specs.Format.{theoryIn};
-ghost use Rattle.table.specs.Refusals.{judgementOf};
+ghost use Rattle.table.specs.Refusals.{Legal};
 ghost use Rattle.memory.specs.Layout.{tagCount};
 ghost use Rattle.memory.specs.Memory.{heldOf, writtenOf};
 ghost use Rattle.memory.specs.Api.{UsesAt};
@@ -42,7 +41,7 @@ fn try_after(
     x: u16,
     uses: Uses,
 ) -> u32
-    requires { ⌜ (judgementOf (now table) ≡ Accepted s) × Logged (theoryIn (now table) s) (now mem) (now log) lines × (x < tagCount * (2 * s .atoms)) × (writtenOf (now mem) x ≡ true) × (heldOf (now mem) x ≡ false) ⌝ }
+    requires { ⌜ Legal (now table) s × Logged (theoryIn (now table) s) (now mem) (now log) lines × (x < tagCount * (2 * s .atoms)) × (writtenOf (now mem) x ≡ true) × (heldOf (now mem) x ≡ false) ⌝ }
     requires { ⌜ UsesAt (theoryIn (now table) s) (x / tagCount) (uses .first) (uses .end) ⌝ }
     ensures { λ r. ⌜ Processed (theoryIn (now (table .entry)) s) x (now (mem .entry)) (now (log .entry)) lines (now (mem .exit)) (now (log .exit)) r ⌝ }
 {
@@ -62,7 +61,7 @@ fn process(
     worked: u32,
     spent: u32,
 ) -> Progress
-    requires { ⌜ (judgementOf (now table) ≡ Accepted s) × Next (theoryIn (now table) s) budget (now mem) (now log) lines (record { worked = worked; spent = spent }) ⌝ }
+    requires { ⌜ Legal (now table) s × Next (theoryIn (now table) s) budget (now mem) (now log) lines (record { worked = worked; spent = spent }) ⌝ }
     ensures { λ r. ⌜ Stepped (theoryIn (now (table .entry)) s) budget (now (mem .entry)) (now (log .entry)) lines (record { worked = worked; spent = spent }) (now (mem .exit)) (now (log .exit)) (r .lines) (r .tally) ⌝ }
 {
     let x = log[worked as usize];
@@ -94,7 +93,7 @@ fn process_with(
     lines: u32,
     tally: &mut Tally,
 ) -> u32
-    requires { ⌜ (judgementOf (now table) ≡ Accepted s) × Next (theoryIn (now table) s) budget (now mem) (now log) lines (now tally) ⌝ }
+    requires { ⌜ Legal (now table) s × Next (theoryIn (now table) s) budget (now mem) (now log) lines (now tally) ⌝ }
     ensures { λ r. ⌜ Stepped (theoryIn (now (table .entry)) s) budget (now (mem .entry)) (now (log .entry)) lines (now (tally .entry)) (now (mem .exit)) (now (log .exit)) r (now (tally .exit)) ⌝ }
 {
     let worked = tally.worked;
@@ -114,7 +113,7 @@ pub fn process_next(
     log: &mut [u16],
     at: Progress,
 ) -> Progress
-    requires { ⌜ (judgementOf (now table) ≡ Accepted s) × Next (theoryIn (now table) s) budget (now mem) (now log) (at .lines) (at .tally) ⌝ }
+    requires { ⌜ Legal (now table) s × Next (theoryIn (now table) s) budget (now mem) (now log) (at .lines) (at .tally) ⌝ }
     ensures { λ r. ⌜ Stepped (theoryIn (now (table .entry)) s) budget (now (mem .entry)) (now (log .entry)) (at .lines) (at .tally) (now (mem .exit)) (now (log .exit)) (r .lines) (r .tally) ⌝ }
 {
     let mut tally = at.tally;

@@ -8,9 +8,8 @@ ghost use lib.ListN.{length, set};
 ghost use Rattle.logic.specs.Tests.{_or_, isnt};
 ghost use Rattle.logic.specs.Theory.{complement};
 ghost use Rattle.logic.specs.Reading.{heads, visited, withTags};
-ghost use Rattle.table.specs.declared.judge.Judgement.the-variants.{Accepted};
 ghost use Rattle.table.specs.Format.{theoryIn};
-ghost use Rattle.table.specs.Refusals.{judgementOf};
+ghost use Rattle.table.specs.Refusals.{Legal};
 ghost use Rattle.memory.specs.Layout.{tagCount};
 ghost use Rattle.memory.specs.Memory.{writtenOf};
 ghost use Rattle.memory.specs.Api.{UsesAt};
@@ -45,7 +44,7 @@ fn try_open(
     q: u16,
     t: u16,
 ) -> u32
-    requires { ⌜ (judgementOf (now table) ≡ Accepted s) × (q < 2 * s .atoms) × (t < tagCount) × Logged (theoryIn (now table) s) (now mem) (now log) lines × (writtenOf (now mem) (tagCount * q + t) ≡ false) ⌝ }
+    requires { ⌜ Legal (now table) s × (q < 2 * s .atoms) × (t < tagCount) × Logged (theoryIn (now table) s) (now mem) (now log) lines × (writtenOf (now mem) (tagCount * q + t) ≡ false) ⌝ }
     ensures { λ r. ⌜ Tried (theoryIn (now (table .entry)) s) ((tagCount * q + t) ∷ []) (now (mem .entry)) (now (log .entry)) lines (now (mem .exit)) (now (log .exit)) r ⌝ }
 {
     let x = TAGS * q + t;
@@ -66,7 +65,7 @@ fn try_opposites(
     q: u16,
     t: u16,
 ) -> u32
-    requires { ⌜ (judgementOf (now table) ≡ Accepted s) × (q < 2 * s .atoms) × (t < 3) × (t % 2 ≡ 0) × Logged (theoryIn (now table) s) (now mem) (now log) lines ⌝ }
+    requires { ⌜ Legal (now table) s × (q < 2 * s .atoms) × (t < 3) × (t % 2 ≡ 0) × Logged (theoryIn (now table) s) (now mem) (now log) lines ⌝ }
     ensures { λ r. ⌜ Tried (theoryIn (now (table .entry)) s) ((tagCount * q + t) ∷ (tagCount * q + (t + 1)) ∷ []) (now (mem .entry)) (now (log .entry)) lines (now (mem .exit)) (now (log .exit)) r ⌝ }
 {
     if either_written(mem, q, t) {
@@ -88,7 +87,7 @@ pub fn try_literal(
     lines: u32,
     q: u16,
 ) -> u32
-    requires { ⌜ (judgementOf (now table) ≡ Accepted s) × (q < 2 * s .atoms) × Logged (theoryIn (now table) s) (now mem) (now log) lines ⌝ }
+    requires { ⌜ Legal (now table) s × (q < 2 * s .atoms) × Logged (theoryIn (now table) s) (now mem) (now log) lines ⌝ }
     ensures { λ r. ⌜ Tried (theoryIn (now (table .entry)) s) (withTags tagCount (q ∷ [])) (now (mem .entry)) (now (log .entry)) lines (now (mem .exit)) (now (log .exit)) r ⌝ }
 {
     let n = try_opposites(table, s, mem, log, lines, q, 0);
@@ -97,7 +96,7 @@ pub fn try_literal(
 
 // A literal and its complement.
 pub fn try_both(table: &[u8], s: Sizes, mem: &mut [u16], log: &mut [u16], lines: u32, q: u16) -> u32
-    requires { ⌜ (judgementOf (now table) ≡ Accepted s) × (q < 2 * s .atoms) × Logged (theoryIn (now table) s) (now mem) (now log) lines ⌝ }
+    requires { ⌜ Legal (now table) s × (q < 2 * s .atoms) × Logged (theoryIn (now table) s) (now mem) (now log) lines ⌝ }
     ensures { λ r. ⌜ Tried (theoryIn (now (table .entry)) s) (withTags tagCount (q ∷ complement q ∷ [])) (now (mem .entry)) (now (log .entry)) lines (now (mem .exit)) (now (log .exit)) r ⌝ }
 {
     let other = Literal(q).complement();
@@ -122,7 +121,7 @@ fn try_rule(
     r: u16,
     definite: bool,
 ) -> u32
-    requires { ⌜ (judgementOf (now table) ≡ Accepted s) × (r < s .rules) × Logged (theoryIn (now table) s) (now mem) (now log) lines ⌝ }
+    requires { ⌜ Legal (now table) s × (r < s .rules) × Logged (theoryIn (now table) s) (now mem) (now log) lines ⌝ }
     ensures { λ n. ⌜ Tried (theoryIn (now (table .entry)) s) (withTags tagCount (headsIf (theoryIn (now (table .entry)) s) definite (r ∷ []))) (now (mem .entry)) (now (log .entry)) lines (now (mem .exit)) (now (log .exit)) n ⌝ }
 {
     if !visits(definite, is_strict(table, s, mem, r)) {
@@ -143,7 +142,7 @@ pub fn try_uses(
     definite: bool,
     uses: Uses,
 ) -> u32
-    requires { ⌜ (judgementOf (now table) ≡ Accepted s) × (p < 2 * s .atoms) × Logged (theoryIn (now table) s) (now mem) (now log) lines × UsesAt (theoryIn (now table) s) p (uses .first) (uses .end) ⌝ }
+    requires { ⌜ Legal (now table) s × (p < 2 * s .atoms) × Logged (theoryIn (now table) s) (now mem) (now log) lines × UsesAt (theoryIn (now table) s) p (uses .first) (uses .end) ⌝ }
     ensures { λ r. ⌜ Tried (theoryIn (now (table .entry)) s) (withTags tagCount (heads (theoryIn (now (table .entry)) s) (visited (theoryIn (now (table .entry)) s) (familyIf definite) p))) (now (mem .entry)) (now (log .entry)) lines (now (mem .exit)) (now (log .exit)) r ⌝ }
 {
     let mut n = lines;

@@ -7,9 +7,8 @@ ghost use lib.ListN.{length, take};
 ghost use Rattle.logic.specs.Theory.{size};
 ghost use Rattle.logic.specs.Worklist.{initial, run};
 ghost use Rattle.logic.specs.Plain.{plainSystem};
-ghost use Rattle.table.specs.declared.judge.Judgement.the-variants.{Accepted};
 ghost use Rattle.table.specs.Format.{theoryIn};
-ghost use Rattle.table.specs.Refusals.{judgementOf};
+ghost use Rattle.table.specs.Refusals.{Legal};
 ghost use Rattle.memory.specs.Layout.{tagCount};
 ghost use Rattle.memory.specs.Memory.{heldOf};
 ghost use Rattle.engine.specs.Working.{Blank, Logged, Opened, Worked};
@@ -23,7 +22,7 @@ use table::format::Sizes;
 
 // What follows from nothing is written.
 pub fn write_initial(table: &[u8], s: Sizes, mem: &mut [u16], log: &mut [u16]) -> u32
-    requires { ⌜ (judgementOf (now table) ≡ Accepted s) × (tagCount * s .atoms ≤ length (now log)) × Blank (theoryIn (now table) s) (now mem) ⌝ }
+    requires { ⌜ Legal (now table) s × (tagCount * s .atoms ≤ length (now log)) × Blank (theoryIn (now table) s) (now mem) ⌝ }
     ensures { λ r. ⌜ Opened (theoryIn (now (table .entry)) s) (now (mem .entry)) (now (log .entry)) (now (mem .exit)) (now (log .exit)) r ⌝ }
 {
     let end = 2 * s.atoms;
@@ -57,7 +56,7 @@ pub fn work(
     opened: u32,
     start: u32,
 ) -> Answer
-    requires { ⌜ (judgementOf (now table) ≡ Accepted s) × Logged (theoryIn (now table) s) (now mem) (now log) opened × (take opened (now log) ≡ initial (plainSystem (theoryIn (now table) s))) × ((x : ℕ) → heldOf (now mem) x ≡ false) ⌝ }
+    requires { ⌜ Legal (now table) s × Logged (theoryIn (now table) s) (now mem) (now log) opened × (take opened (now log) ≡ initial (plainSystem (theoryIn (now table) s))) × ((x : ℕ) → heldOf (now mem) x ≡ false) ⌝ }
     requires { ⌜ (start ≡ size (theoryIn (now table) s)) × (start ≤ budget) ⌝ }
     ensures { λ r. ⌜ Worked (run (plainSystem (theoryIn (now (table .entry)) s)) budget) (now (mem .entry)) (now (log .entry)) (now (mem .exit)) (now (log .exit)) r ⌝ }
 {

@@ -6,6 +6,7 @@ pub mod Pigeon
 pub mod Rising
 pub mod Cycle
 pub mod Theories
+pub mod Contents
 pub mod Derivations
 pub mod Runs
 pub mod Budgets

@@ -5,11 +5,12 @@ use native.Mathlib.Omega.{arith}
 use mathlib.Core.Path.{_≡_, refl, sym, _∙_, ap, subst}
 use mathlib.Core.Logic.{_⊎_, ⊎-elim}
 use mathlib.Core.Bool.{Bool, true}
-use mathlib.Core.List.{List, [], _∷_, _++_}
+use mathlib.Core.List.{List, [], _∷_, _++_, map, map-append}
+use lib.ListN.{length, getD, length-map}
 use lib.Dec.{T, leb, leb→le, le→leb}
 use Rattle.logic.specs.Tests.{_and_, member, countBelow, total, weigh, upto, pick}
 use Rattle.logic.proofs.Tests.{test-cases, cond-cases, and-intro, and-left, and-right, lt-suc-cases}
-use Rattle.logic.proofs.Lists.{member-nil, member-here, member-there, member-cons-elim, member-upto}
+use Rattle.logic.proofs.Lists.{member-nil, member-here, member-there, member-cons-elim, member-map, member-map-intro, member-upto, member-upto-intro, length-upto, getD-map-upto}
 use Rattle.logic.proofs.Sums.{weigh-true, weigh-false}
 use Rattle.logic.proofs.Pigeon.{count-le}
 
@@ -62,6 +63,15 @@ unfolding risingFrom upto
 rising-upto zero = tt
 rising-upto (suc n) = rising-snoc 0 (upto n) n (omega arith) (rising-upto n) (member-upto n)
 
+-- the values of a function that rises below n
+pub rising-map : (f : ℕ → ℕ) (n : ℕ) → ((i j : ℕ) → i < j → j < n → f i < f j) → T (risingFrom 0 (map f (upto n)))
+unfolding risingFrom upto
+rising-map f zero r = tt
+rising-map f (suc n) r =
+    subst (λ k. T (risingFrom 0 k)) (sym (map-append f (upto n) (n ∷ [])))
+    (rising-snoc 0 (map f (upto n)) (f n) (omega arith) (rising-map f n (λ i j h l. r i j h (omega arith)))
+    (λ z m. let (j, u, e) = member-map f (upto n) z m in subst (λ x. x < f n) (sym e) (r j n (member-upto n j u) (omega arith))))
+
 -- two strictly rising lists with the same members are one
 pub rising-same : (m : ℕ) (l k : List ℕ) → T (risingFrom m l) → T (risingFrom m k) → ((z : ℕ) → T (member z l) → T (member z k))
     → ((z : ℕ) → T (member z k) → T (member z l)) → l ≡ k
@@ -90,6 +100,26 @@ rising-same m (x ∷ l) (y ∷ k) t u f g = ap (λ z. z ∷ l) heads ∙ ap (y �
 
     up : (z : ℕ) → T (member z k) → T (member z (x ∷ l)) → T (member z l)
     up z v w = ⊎-elim (λ e. absurd (lt-irrefl x (omega (arith, below-k z v, e, heads)))) (λ a. a) (member-cons-elim z x l w)
+
+-- two functions that rise, one below n and the other below m, and have the same values there: they are one
+pub rising-values : (f g : ℕ → ℕ) (n m : ℕ) → ((i j : ℕ) → i < j → j < n → f i < f j) → ((i j : ℕ) → i < j → j < m → g i < g j)
+    → ((i : ℕ) → i < n → (j : ℕ) × (j < m) × (g j ≡ f i)) → ((j : ℕ) → j < m → (i : ℕ) × (i < n) × (f i ≡ g j)) → (n ≡ m) × ((i : ℕ) → i < n → f i ≡ g i)
+rising-values f g n m r s u v = (
+  count,
+  λ i h. sym (getD-map-upto f n i h) ∙ ap (λ l. getD l i 0) same ∙ getD-map-upto g m i (subst (λ k. i < k) count h),
+)
+  where
+    values-in : (p q : ℕ → ℕ) (a b : ℕ) → ((i : ℕ) → i < a → (j : ℕ) × (j < b) × (q j ≡ p i)) → (z : ℕ) → T (member z (map p (upto a))) → T (member z (map q (upto b)))
+    values-in p q a b w z t =
+        let (i, k, e) = member-map p (upto a) z t in
+        let (j, l, d) = w i (member-upto a i k) in
+        subst (λ x. T (member x (map q (upto b)))) (d ∙ sym e) (member-map-intro q (upto b) j (member-upto-intro b j l))
+
+    same : map f (upto n) ≡ map g (upto m)
+    same = rising-same 0 _ _ (rising-map f n r) (rising-map g m s) (values-in f g n m u) (values-in g f m n v)
+
+    count : n ≡ m
+    count = sym (length-map (upto n) f ∙ length-upto n) ∙ ap length same ∙ (length-map (upto m) g ∙ length-upto m)
 
 -- a test that passes below each number at which it passes: it passes just below its count
 module _ (p : ℕ → Bool) where

@@ -1,5 +1,6 @@
 pub mod Tests
 pub mod Theory
+pub mod Content
 pub mod Inference
 pub mod System
 pub mod Worklist

@@ -4,9 +4,8 @@ ghost use mathlib.Core.Path.{_≡_};
 ghost use lib.ListN.{length};
 ghost use Rattle.logic.specs.Theory.{complement};
 ghost use Rattle.logic.specs.Plain.{plainSystem};
-ghost use Rattle.table.specs.declared.judge.Judgement.the-variants.{Accepted};
 ghost use Rattle.table.specs.Format.{theoryIn};
-ghost use Rattle.table.specs.Refusals.{judgementOf};
+ghost use Rattle.table.specs.Refusals.{Legal};
 ghost use Rattle.memory.specs.Layout.{tagCount, fieldSize, memorySize};
 ghost use Rattle.memory.specs.Memory.{view, heldOf, Ready};
 ghost use Rattle.memory.specs.Deciding.{processed, definitelyBy, notDefinitelyBy, defeasiblyBy, notDefeasiblyBy};
@@ -100,7 +99,7 @@ fn not_defeasibly(mem: &[u16], q: u16) -> bool
 
 // Whether a conclusion follows: the remainder by four picks the inference rule.
 pub fn follows(table: &[u8], s: Sizes, mem: &[u16], x: u16) -> bool
-    requires { ⌜ (judgementOf (now table) ≡ Accepted s) × Ready (theoryIn (now table) s) (now mem) × (x < tagCount * (2 * s .atoms)) ⌝ }
+    requires { ⌜ Legal (now table) s × Ready (theoryIn (now table) s) (now mem) × (x < tagCount * (2 * s .atoms)) ⌝ }
     ensures { λ r. ⌜ r ≡ plainSystem (theoryIn (now (table .entry)) s) .infers (heldOf (now (mem .entry))) x ⌝ }
 {
     let q = x / TAGS;

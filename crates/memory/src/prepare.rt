@@ -3,9 +3,8 @@ ghost use Prim.Native.Nat.{_+_, _≤_, _<_};
 ghost use mathlib.Core.Path.{_≡_};
 ghost use mathlib.Core.List.{_++_};
 ghost use lib.ListN.{length, drop, replicate};
-ghost use Rattle.table.specs.declared.judge.Judgement.the-variants.{Accepted};
 ghost use Rattle.table.specs.Format.{theoryIn};
-ghost use Rattle.table.specs.Refusals.{judgementOf};
+ghost use Rattle.table.specs.Refusals.{Legal};
 ghost use Rattle.memory.specs.Layout.{memorySize};
 ghost use Rattle.memory.specs.Api.{Prepared};
 ghost use Rattle.memory.specs.Indexing.{Low, Started};
@@ -39,7 +38,7 @@ pub fn clear(mem: &mut [u16])
 
 // What is written once, in a memory of zeros else.
 fn fill(table: &[u8], s: Sizes, mem: &mut [u16])
-    requires { ⌜ (judgementOf (now table) ≡ Accepted s) × Low (now mem) 0 ⌝ }
+    requires { ⌜ Legal (now table) s × Low (now mem) 0 ⌝ }
     ensures { λ _. ⌜ Started (theoryIn (now (table .entry)) s) 0 (now (mem .entry)) (now (mem .exit)) ⌝ }
 {
     add_rules(table, s, mem);
@@ -54,7 +53,7 @@ fn fill(table: &[u8], s: Sizes, mem: &mut [u16])
 // Rule r is visited for its virtual antecedent, with +Δ and +∂. The second visit stands here in its parts, and in `visit` too: where one
 // function makes both visits, the compiler no longer keeps `walk` apart. And the rule waits before it: how it stands after it is enough.
 fn start_rule(table: &[u8], s: Sizes, mem: &mut [u16], r: usize)
-    requires { ⌜ (judgementOf (now table) ≡ Accepted s) × Started (theoryIn (now table) s) r (now mem) (now mem) × (r < s .rules) ⌝ }
+    requires { ⌜ Legal (now table) s × Started (theoryIn (now table) s) r (now mem) (now mem) × (r < s .rules) ⌝ }
     ensures { λ _. ⌜ Started (theoryIn (now (table .entry)) s) (r + 1) (now (mem .entry)) (now (mem .exit)) ⌝ }
 {
     visit_definite(table, s, mem, r, 0);
@@ -68,7 +67,7 @@ fn start_rule(table: &[u8], s: Sizes, mem: &mut [u16], r: usize)
 
 // Every rule is visited for its virtual antecedent.
 fn start(table: &[u8], s: Sizes, mem: &mut [u16])
-    requires { ⌜ (judgementOf (now table) ≡ Accepted s) × Started (theoryIn (now table) s) 0 (now mem) (now mem) ⌝ }
+    requires { ⌜ Legal (now table) s × Started (theoryIn (now table) s) 0 (now mem) (now mem) ⌝ }
     ensures { λ _. ⌜ Started (theoryIn (now (table .entry)) s) (s .rules) (now (mem .entry)) (now (mem .exit)) ⌝ }
 {
     let mut r: u16 = 0;
@@ -80,7 +79,7 @@ fn start(table: &[u8], s: Sizes, mem: &mut [u16])
 
 // Nothing processed, nothing written; whatever the words held.
 pub fn prepare(table: &[u8], s: Sizes, mem: &mut [u16])
-    requires { ⌜ (judgementOf (now table) ≡ Accepted s) × (memorySize ≤ length (now mem)) ⌝ }
+    requires { ⌜ Legal (now table) s × (memorySize ≤ length (now mem)) ⌝ }
     ensures { λ _. ⌜ Prepared (theoryIn (now (table .entry)) s) (now (mem .entry)) (now (mem .exit)) ⌝ }
 {
     clear(mem);

@@ -3,9 +3,8 @@ ghost use Prim.Native.Nat.{_-_, _*_, _≤_, _<_};
 ghost use mathlib.Core.Path.{_≡_};
 ghost use lib.ListN.{length, getD};
 ghost use Rattle.logic.specs.Theory.{headOf, kindOf, isStrict};
-ghost use Rattle.table.specs.declared.judge.Judgement.the-variants.{Accepted};
 ghost use Rattle.table.specs.Format.{theoryIn};
-ghost use Rattle.table.specs.Refusals.{judgementOf};
+ghost use Rattle.table.specs.Refusals.{Legal};
 ghost use Rattle.memory.specs.Layout.{fieldSize, memorySize};
 ghost use Rattle.memory.specs.Memory.{view, users, usesFrom, Ready};
 ghost use Rattle.memory.specs.Api.{UsesAt};
@@ -34,7 +33,7 @@ fn first_use(mem: &[u16], p: u16) -> usize
 }
 
 pub fn uses_of(table: &[u8], s: Sizes, mem: &[u16], p: u16) -> Uses
-    requires { ⌜ (judgementOf (now table) ≡ Accepted s) × Ready (theoryIn (now table) s) (now mem) × (p < 2 * s .atoms) ⌝ }
+    requires { ⌜ Legal (now table) s × Ready (theoryIn (now table) s) (now mem) × (p < 2 * s .atoms) ⌝ }
     ensures { λ r. ⌜ UsesAt (theoryIn (now (table .entry)) s) p (r .first) (r .end) ⌝ }
 {
     let first = first_use(mem, p);

@@ -7,9 +7,8 @@ ghost use lib.ListN.{length};
 ghost use Rattle.logic.specs.Tests.{_and_, weigh};
 ghost use Rattle.logic.specs.Theory.{canSupport, kindOf};
 ghost use Rattle.logic.specs.System.{Coherent};
-ghost use Rattle.table.specs.declared.judge.Judgement.the-variants.{Accepted};
 ghost use Rattle.table.specs.Format.{theoryIn};
-ghost use Rattle.table.specs.Refusals.{judgementOf};
+ghost use Rattle.table.specs.Refusals.{Legal};
 ghost use Rattle.memory.specs.Layout.{tagCount, fieldCount, fieldSize, memorySize};
 ghost use Rattle.memory.specs.Fields.{has, sizeF, headF, kindF, rivalsBy, rulesBy, byRival, byItself};
 ghost use Rattle.memory.specs.Memory.{view, heldOf, writtenOf, NeverBothAt, Invariant, Ready};
@@ -206,7 +205,7 @@ pub fn propagate(table: &[u8], s: Sizes, mem: &mut [u16], r: usize, t: usize)
 
 // One antecedent more of rule r has tag t.
 fn visit(table: &[u8], s: Sizes, mem: &mut [u16], r: usize, t: usize)
-    requires { ⌜ (judgementOf (now table) ≡ Accepted s) × Invariant (theoryIn (now table) s) (now mem) × (r < s .rules) × (t < tagCount) × Lacks (view (now mem)) t r ⌝ }
+    requires { ⌜ Legal (now table) s × Invariant (theoryIn (now table) s) (now mem) × (r < s .rules) × (t < tagCount) × Lacks (view (now mem)) t r ⌝ }
     ensures { λ _. ⌜ Visited (theoryIn (now (table .entry)) s) t r (now (mem .entry)) (now (mem .exit)) ⌝ }
 {
     if t < 2 {
@@ -224,7 +223,7 @@ fn visit(table: &[u8], s: Sizes, mem: &mut [u16], r: usize, t: usize)
 
 // Every rule with literal p in its body is visited with tag t.
 fn visit_uses(table: &[u8], s: Sizes, mem: &mut [u16], p: u16, t: u16, uses: Uses)
-    requires { ⌜ (judgementOf (now table) ≡ Accepted s) × Ready (theoryIn (now table) s) (now mem) × (p < 2 * s .atoms) × (t < tagCount) × (heldOf (now mem) (tagCount * p + t) ≡ false) × Coherent (adds (heldOf (now mem)) (tagCount * p + t)) ⌝ }
+    requires { ⌜ Legal (now table) s × Ready (theoryIn (now table) s) (now mem) × (p < 2 * s .atoms) × (t < tagCount) × (heldOf (now mem) (tagCount * p + t) ≡ false) × Coherent (adds (heldOf (now mem)) (tagCount * p + t)) ⌝ }
     requires { ⌜ (p < fieldSize) × (memorySize ≤ length (now mem)) × UsesAt (theoryIn (now table) s) p (uses .first) (uses .end) ⌝ }
     ensures { λ _. ⌜ Spread (theoryIn (now (table .entry)) s) p t (now (mem .entry)) (now (mem .exit)) ⌝ }
 {
@@ -239,7 +238,7 @@ fn visit_uses(table: &[u8], s: Sizes, mem: &mut [u16], p: u16, t: u16, uses: Use
 
 // Conclusion x is processed.
 pub fn add(table: &[u8], s: Sizes, mem: &mut [u16], x: u16, uses: Uses)
-    requires { ⌜ (judgementOf (now table) ≡ Accepted s) × Ready (theoryIn (now table) s) (now mem) × (x < tagCount * (2 * s .atoms)) × (writtenOf (now mem) x ≡ true) × (heldOf (now mem) x ≡ false) × Coherent (adds (heldOf (now mem)) x) ⌝ }
+    requires { ⌜ Legal (now table) s × Ready (theoryIn (now table) s) (now mem) × (x < tagCount * (2 * s .atoms)) × (writtenOf (now mem) x ≡ true) × (heldOf (now mem) x ≡ false) × Coherent (adds (heldOf (now mem)) x) ⌝ }
     requires { ⌜ UsesAt (theoryIn (now table) s) (x / tagCount) (uses .first) (uses .end) ⌝ }
     ensures { λ _. ⌜ Added (theoryIn (now (table .entry)) s) x (now (mem .entry)) (now (mem .exit)) ⌝ }
 {

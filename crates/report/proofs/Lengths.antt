@@ -74,8 +74,8 @@ unfolding runSheet
 run-length atoms log spent most a b c =
     omega (arith, count-length atoms a, atoms-length (verdictIn log) atoms a, spent-length spent most b c, length-append (countLine atoms ++ atomLines (verdictIn log) atoms) (spentLine spent most), length-append (countLine atoms) (atomLines (verdictIn log) atoms))
 
-pub refused-length : (n : ℕ) → n < 10 → length (refusedSheet n) ≤ 10
-refused-length n h = omega (arith, length-1 n h, refused-parts n)
+pub refused-length : (n : ℕ) → n < 100 → length (refusedSheet n) ≤ 11
+refused-length n h = omega (arith, length-2 n h, refused-parts n)
 
 -- verdicts that agree give one text
 pub atoms-same : (f g : ℕ → Verdict) (n : ℕ) → ((a : ℕ) → a < n → f a ≡ g a) → atomLines f n ≡ atomLines g n

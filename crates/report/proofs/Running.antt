@@ -2,14 +2,14 @@
 use Prim.Native.Nat.{ℕ, _+_, _-_, _*_, _≤_, _<_}
 use native.Mathlib.Nat.{le-refl}
 use native.Mathlib.Omega.{arith}
-use mathlib.Core.Path.{_≡_, refl, sym, _∙_, ap, ap₂, subst}
+use mathlib.Core.Path.{_≡_, refl, sym, _∙_, ap, subst}
 use mathlib.Core.Bool.{cond}
 use mathlib.Core.List.{List, _++_}
 use lib.Dec.{T}
 use lib.ListN.{length, take, drop, replicate, length-append, length-replicate}
 use lib.Seq.{take-at, length-take-le}
-use Rattle.logic.specs.Theory.{entries, size}
-use Rattle.logic.specs.Worklist.{logOf, lines, run}
+use Rattle.logic.specs.Theory.{Theory, entries, size}
+use Rattle.logic.specs.Worklist.{logOf, lines}
 use Rattle.logic.specs.Plain.{plainSystem, bound}
 use Rattle.logic.specs.Demands.{Demands}
 use Rattle.logic.proofs.Tests.{cond-cases}
@@ -18,114 +18,135 @@ use Rattle.table.specs.declared.format.Sizes.{Sizes}
 use Rattle.table.specs.declared.judge.Refusal.{Refusal}
 use Rattle.table.specs.declared.judge.Judgement.{Judgement}
 use Rattle.table.specs.declared.judge.Judgement.the-variants as judgement
+use Rattle.table.specs.declared.edition.Edition.the-variants.{Old}
+use Rattle.table.specs.Editions.{layoutOf}
 use Rattle.table.specs.Format.{theoryIn, theoryOf, sizesOf}
-use Rattle.table.specs.Refusals.{numberOf, judgementOf}
+use Rattle.table.specs.Refusals.{numberOf, judgementOf, Legal}
 use Rattle.table.proofs.Numbers.{number-range}
-use Rattle.table.proofs.Legal.{legal, Limited, limited, ranged, all-entries}
+use Rattle.table.proofs.Legal.{legal, Limited, limited, ranged, all-entries, theory-read}
 use Rattle.engine.specs.declared.answer.Counts.{Counts}
 use Rattle.engine.specs.declared.answer.Answer.{Answer}
 use Rattle.engine.specs.declared.answer.Answer.the-variants.{Refused, Stopped, Finished}
 use Rattle.engine.specs.Answers.{numbersOf, runOf, callJudgement, countsIn, answerTo, logAfter, Ran}
 use Rattle.engine.proofs.answer.Numbering.{answer-is}
-use Rattle.engine.proofs.answer.Buffers.{proper-read, atoms-read, refused-table, full-log, long-enough}
+use Rattle.engine.proofs.answer.Buffers.{proper-read, refused-table, full-log, long-enough}
 use Rattle.report.specs.Text.{decimal, refusedWord, newline}
 use Rattle.report.specs.Sheet.{runSheet, refusedSheet, budgetOf, sheetBy, sheetOf, Printed}
 use Rattle.report.specs.Printing.{Put, FitsRun, Fits, sheetTo}
-use Rattle.report.proofs.Decimal.{length-1}
+use Rattle.report.proofs.Decimal.{length-2}
 use Rattle.report.proofs.Lengths.{run-length, refused-length, refused-parts}
 use Rattle.report.proofs.Puts.{room-left, put-put, put-zeros}
 
--- a refusal's number has one digit
-pub number-small : (n : Refusal) → numberOf n < 10
+-- a refusal's number has at most two digits
+pub number-small : (n : Refusal) → numberOf n < 100
 number-small n = omega (arith, number-range n .1)
 
--- An accepted table: its bound is below 100,000, and the run under it finishes.
-module _ (b : List ℕ) (s : Sizes) (e : judgementOf b ≡ judgement.Accepted s) where
-  read : sizesOf b ≡ s
-  read = legal b s e .read
-
+-- The layout of an accepted table: its bound is below 100,000, and the run under it finishes.
+module _ (b : List ℕ) (s : Sizes) (e : Legal b s) where
   few : Limited s
-  few = limited s (legal b s e .limits)
+  few = limited s (e .limits)
 
-  pub bound-of : budgetOf b ≡ 5 * s .atoms + s .facts + s .rules + 3 * s .entries + 3 * s .pairs
+  pub bound-of : budgetOf (theoryIn b s) ≡ 5 * s .atoms + s .facts + s .rules + 3 * s .entries + 3 * s .pairs
   unfolding theoryIn
-  bound-of =
-      ap (λ z. bound (theoryIn b z)) read
-      ∙ (let k : entries (theoryIn b s) ≡ s .entries = all-entries b s (ranged b s (legal b s e .ranges)) in omega arith)
+  bound-of = let k : entries (theoryIn b s) ≡ s .entries = all-entries b s (ranged b s (e .ranges)) in omega arith
 
-  bound-small : budgetOf b < 100000
+  bound-small : budgetOf (theoryIn b s) < 100000
   bound-small = let l = few in omega (arith, bound-of, l .atoms, l .facts, l .rules, l .entries, l .pairs)
 
-  pub run-finished : T (runOf b (budgetOf b) .finished)
-  run-finished = plain-finishes (theoryOf b) (proper-read b s e) (budgetOf b) (le-refl (budgetOf b))
+  run-finished : T (runOf (theoryIn b s) (budgetOf (theoryIn b s)) .finished)
+  run-finished = plain-finishes (theoryIn b s) (proper-read b s e) (budgetOf (theoryIn b s)) (le-refl (budgetOf (theoryIn b s)))
 
-  pub run-demands : Demands (plainSystem (theoryOf b)) (bound (theoryOf b)) (5 * size (theoryOf b)) (budgetOf b)
-  run-demands = plain-demands (theoryOf b) (proper-read b s e) (budgetOf b)
+  run-demands : Demands (plainSystem (theoryIn b s)) (bound (theoryIn b s)) (5 * size (theoryIn b s)) (budgetOf (theoryIn b s))
+  run-demands = plain-demands (theoryIn b s) (proper-read b s e) (budgetOf (theoryIn b s))
+
+  sheet-short : length (sheetBy (judgement.Accepted s) (theoryIn b s)) ≤ 5041
+  unfolding sheetBy theoryIn
+  sheet-short =
+      run-length (s .atoms) (logOf (runOf (theoryIn b s) (budgetOf (theoryIn b s)))) (runOf (theoryIn b s) (budgetOf (theoryIn b s)) .spent) (budgetOf (theoryIn b s))
+      (omega (arith, few .atoms)) (omega (arith, run-demands .within, bound-small)) bound-small
 
   -- the run under the bound, and the log that it left
-  module _ (most : ℕ) (m : most ≡ 5 * s .atoms + s .facts + s .rules + 3 * s .entries + 3 * s .pairs) (log log′ : List ℕ) (w : log′ ≡ logOf (runOf b most) ++ drop (lines (runOf b most)) log) where
-    whole : take (lines (runOf b most)) log′ ≡ logOf (runOf b most)
-    whole = ap (take (lines (runOf b most))) w ∙ take-at (logOf (runOf b most)) (drop (lines (runOf b most)) log) (lines (runOf b most)) refl
+  module _ (most : ℕ) (m : most ≡ 5 * s .atoms + s .facts + s .rules + 3 * s .entries + 3 * s .pairs) (log log′ : List ℕ)
+      (w : log′ ≡ logOf (runOf (theoryIn b s) most) ++ drop (lines (runOf (theoryIn b s) most)) log) where
+    whole : take (lines (runOf (theoryIn b s) most)) log′ ≡ logOf (runOf (theoryIn b s) most)
+    whole =
+        ap (take (lines (runOf (theoryIn b s) most))) w
+        ∙ take-at (logOf (runOf (theoryIn b s) most)) (drop (lines (runOf (theoryIn b s) most)) log) (lines (runOf (theoryIn b s) most)) refl
 
-    run-fits : FitsRun (s .atoms) most log′ (countsIn (runOf b most))
+    run-fits : FitsRun (s .atoms) most log′ (countsIn (runOf (theoryIn b s) most))
     run-fits =
         record {
           atoms = few .atoms;
-          lines = omega (arith, ap length w, length-append (logOf (runOf b most)) (drop (lines (runOf b most)) log));
-          spent = omega (arith, plain-demands (theoryOf b) (proper-read b s e) most .within, m, bound-of, bound-small);
+          lines = omega (arith, ap length w, length-append (logOf (runOf (theoryIn b s) most)) (drop (lines (runOf (theoryIn b s) most)) log));
+          spent = omega (arith, plain-demands (theoryIn b s) (proper-read b s e) most .within, m, bound-of, bound-small);
           most = omega (arith, m, bound-of, bound-small);
         }
 
-    run-sheet : runSheet (s .atoms) (take (lines (runOf b most)) log′) (runOf b most .spent) most ≡ sheetBy (judgement.Accepted s) b
-    unfolding sheetBy
+    run-sheet : runSheet (s .atoms) (take (lines (runOf (theoryIn b s) most)) log′) (runOf (theoryIn b s) most .spent) most ≡ sheetBy (judgement.Accepted s) (theoryIn b s)
+    unfolding sheetBy theoryIn
     run-sheet =
-        ap (λ l. runSheet (s .atoms) l (runOf b most .spent) most) whole
-        ∙ ap₂ (λ a k. runSheet a (logOf (runOf b k)) (runOf b k .spent) k) (sym (atoms-read b s e)) (m ∙ sym bound-of)
+        ap (λ l. runSheet (s .atoms) l (runOf (theoryIn b s) most .spent) most) whole
+        ∙ ap (λ k. runSheet (s .atoms) (logOf (runOf (theoryIn b s) k)) (runOf (theoryIn b s) k .spent) k) (m ∙ sym bound-of)
 
-module _ {b log log′ scratch scratch′ : List ℕ} (a : Answer) {most : ℕ} (r : Ran b most log log′ scratch scratch′ (numbersOf a)) (k : length log ≡ 2048) (l : length scratch ≡ 32768) (s : Sizes) (z : s ≡ sizesOf b)
-    (m : most ≡ 5 * s .atoms + s .facts + s .rules + 3 * s .entries + 3 * s .pairs) where
-  by-judgement : (j : Judgement) → judgementOf b ≡ j → (sheetTo (s .atoms) most log′ a ≡ sheetBy j b) × Fits (s .atoms) most log′ a
-  unfolding answerTo logAfter sheetTo sheetBy Fits
-  by-judgement (judgement.Refused n) e =
-      subst (λ x. (sheetTo (s .atoms) most log′ x ≡ sheetBy (judgement.Refused n) b) × Fits (s .atoms) most log′ x) (sym same) (refl, tt)
+-- the answer of a run with buffers that are long enough
+module _ {log log′ scratch scratch′ : List ℕ} (a : Answer) {most : ℕ} (k : length log ≡ 2048) (l : length scratch ≡ 32768) where
+  refused-sheet : (n : Refusal) (d : Theory) (atoms : ℕ) → Ran (judgement.Refused n) d most log log′ scratch scratch′ (numbersOf a)
+      → (sheetTo atoms most log′ a ≡ sheetBy (judgement.Refused n) d) × Fits atoms most log′ a
+  unfolding answerTo sheetTo sheetBy Fits
+  refused-sheet n d atoms r =
+      subst (λ x. (sheetTo atoms most log′ x ≡ sheetBy (judgement.Refused n) d) × Fits atoms most log′ x) (sym same) (refl, tt)
     where
       same : a ≡ Refused n
-      same = answer-is r ∙ ap (λ j. answerTo j (runOf b most)) (refused-table b most (length scratch) (length log) n e)
-  by-judgement (judgement.Accepted t) e =
-      subst (λ x. (sheetTo (s .atoms) most log′ x ≡ sheetBy (judgement.Accepted t) b) × Fits (s .atoms) most log′ x) (sym same)
-      (cond-cases (λ x. (sheetTo (s .atoms) most log′ x ≡ sheetBy (judgement.Accepted t) b) × Fits (s .atoms) most log′ x)
-      (runOf b most .finished) (Finished (countsIn (runOf b most))) (Stopped (countsIn (runOf b most))) (λ _. both) (λ _. both))
+      same = answer-is r ∙ ap (λ j. answerTo j (runOf d most)) (refused-table d most (length scratch) (length log) n)
+
+  accepted-sheet : (b : List ℕ) (s : Sizes) → Legal b s → most ≡ 5 * s .atoms + s .facts + s .rules + 3 * s .entries + 3 * s .pairs
+      → Ran (judgement.Accepted s) (theoryIn b s) most log log′ scratch scratch′ (numbersOf a)
+      → (sheetTo (s .atoms) most log′ a ≡ sheetBy (judgement.Accepted s) (theoryIn b s)) × Fits (s .atoms) most log′ a
+  unfolding answerTo logAfter sheetTo sheetBy Fits
+  accepted-sheet b s e m r =
+      subst (λ x. (sheetTo (s .atoms) most log′ x ≡ sheetBy (judgement.Accepted s) (theoryIn b s)) × Fits (s .atoms) most log′ x) (sym same)
+      (cond-cases (λ x. (sheetTo (s .atoms) most log′ x ≡ sheetBy (judgement.Accepted s) (theoryIn b s)) × Fits (s .atoms) most log′ x)
+      (runOf (theoryIn b s) most .finished) (Finished (countsIn (runOf (theoryIn b s) most))) (Stopped (countsIn (runOf (theoryIn b s) most))) (λ _. both) (λ _. both))
     where
-      read-sizes : s ≡ t
-      read-sizes = z ∙ read b t e
+      room : callJudgement (judgement.Accepted s) (theoryIn b s) most (length scratch) (length log) ≡ judgement.Accepted s
+      room = long-enough b s e most (length log) (length scratch) (omega arith) (full-log b s e most (length log) (omega (arith, few b s e .atoms)))
 
-      most-in : most ≡ 5 * t .atoms + t .facts + t .rules + 3 * t .entries + 3 * t .pairs
-      most-in = subst (λ x. most ≡ 5 * x .atoms + x .facts + x .rules + 3 * x .entries + 3 * x .pairs) read-sizes m
+      same : a ≡ cond (runOf (theoryIn b s) most .finished) (Finished (countsIn (runOf (theoryIn b s) most))) (Stopped (countsIn (runOf (theoryIn b s) most)))
+      same = answer-is r ∙ ap (λ j. answerTo j (runOf (theoryIn b s) most)) room
 
-      room : callJudgement b most (length scratch) (length log) ≡ judgement.Accepted t
-      room = long-enough b t e most (length log) (length scratch) (omega arith) (full-log b t e most (length log) (omega (arith, few b t e .atoms)))
+      written : log′ ≡ logOf (runOf (theoryIn b s) most) ++ drop (lines (runOf (theoryIn b s) most)) log
+      written = r .written ∙ ap (λ j. logAfter j (runOf (theoryIn b s) most) log) room
 
-      same : a ≡ cond (runOf b most .finished) (Finished (countsIn (runOf b most))) (Stopped (countsIn (runOf b most)))
-      same = answer-is r ∙ ap (λ j. answerTo j (runOf b most)) room
+      both : (runSheet (s .atoms) (take (lines (runOf (theoryIn b s) most)) log′) (runOf (theoryIn b s) most .spent) most ≡ sheetBy (judgement.Accepted s) (theoryIn b s))
+          × FitsRun (s .atoms) most log′ (countsIn (runOf (theoryIn b s) most))
+      both = (run-sheet b s e most m log log′ written, run-fits b s e most m log log′ written)
 
-      written : log′ ≡ logOf (runOf b most) ++ drop (lines (runOf b most)) log
-      written = r .written ∙ ap (λ j. logAfter j (runOf b most) log) room
+  -- of a table in the old layout, with the sizes that were read
+  module _ (b : List ℕ) (r : Ran (judgementOf Old b) (theoryOf Old b) most log log′ scratch scratch′ (numbersOf a)) (s : Sizes) (z : s ≡ sizesOf (layoutOf Old b))
+      (m : most ≡ 5 * s .atoms + s .facts + s .rules + 3 * s .entries + 3 * s .pairs) where
+    by-judgement : (j : Judgement) → judgementOf Old b ≡ j → (sheetTo (s .atoms) most log′ a ≡ sheetBy j (theoryOf Old b)) × Fits (s .atoms) most log′ a
+    by-judgement (judgement.Refused n) e =
+        refused-sheet n (theoryOf Old b) (s .atoms) (subst (λ j. Ran j (theoryOf Old b) most log log′ scratch scratch′ (numbersOf a)) e r)
+    by-judgement (judgement.Accepted t) e =
+        subst (λ d. (sheetTo (s .atoms) most log′ a ≡ sheetBy (judgement.Accepted t) d) × Fits (s .atoms) most log′ a) (theory-read Old b t e)
+        (subst (λ x. (sheetTo (x .atoms) most log′ a ≡ sheetBy (judgement.Accepted t) (theoryIn (layoutOf Old b) t)) × Fits (x .atoms) most log′ a) (sym read)
+        (accepted-sheet (layoutOf Old b) t (legal Old b t e) (subst (λ x. most ≡ 5 * x .atoms + x .facts + x .rules + 3 * x .entries + 3 * x .pairs) read m)
+        (subst (λ j. Ran j (theoryIn (layoutOf Old b) t) most log log′ scratch scratch′ (numbersOf a)) e
+        (subst (λ d. Ran (judgementOf Old b) d most log log′ scratch scratch′ (numbersOf a)) (sym (theory-read Old b t e)) r))))
+      where
+        read : s ≡ t
+        read = z ∙ legal Old b t e .read
 
-      both : (runSheet (s .atoms) (take (lines (runOf b most)) log′) (runOf b most .spent) most ≡ sheetBy (judgement.Accepted t) b) × FitsRun (s .atoms) most log′ (countsIn (runOf b most))
-      both =
-          subst (λ x. (runSheet (x .atoms) (take (lines (runOf b most)) log′) (runOf b most .spent) most ≡ sheetBy (judgement.Accepted t) b) × FitsRun (x .atoms) most log′ (countsIn (runOf b most)))
-          (sym read-sizes) (run-sheet b t e most most-in log log′ written, run-fits b t e most most-in log log′ written)
+    pub ran-sheet : sheetTo (s .atoms) most log′ a ≡ sheetOf b
+    ran-sheet = by-judgement (judgementOf Old b) refl .0
 
-  pub ran-sheet : sheetTo (s .atoms) most log′ a ≡ sheetOf b
-  ran-sheet = by-judgement (judgementOf b) refl .0
+    pub ran-fits : Fits (s .atoms) most log′ a
+    ran-fits = by-judgement (judgementOf Old b) refl .1
 
-  pub ran-fits : Fits (s .atoms) most log′ a
-  ran-fits = by-judgement (judgementOf b) refl .1
+pub number-length : (n : Refusal) {k : ℕ} → k ≡ numberOf n → length (decimal k) ≤ 2
+number-length n {k} e = length-2 k (subst (λ z. z < 100) (sym e) (number-small n))
 
-pub number-length : (n : Refusal) {k : ℕ} → k ≡ numberOf n → length (decimal k) ≤ 1
-number-length n {k} e = length-1 k (subst (λ z. z < 10) (sym e) (number-small n))
-
-pub put-refused-parts : (n : Refusal) {out out₁ out₂ out₃ : List ℕ} {k r₁ r₂ r₃ : ℕ} → k ≡ numberOf n → 10 ≤ length out → Put out 0 refusedWord out₁ r₁
+pub put-refused-parts : (n : Refusal) {out out₁ out₂ out₃ : List ℕ} {k r₁ r₂ r₃ : ℕ} → k ≡ numberOf n → 11 ≤ length out → Put out 0 refusedWord out₁ r₁
     → Put out₁ r₁ (decimal k) out₂ r₂ → Put out₂ r₂ newline out₃ r₃ → Put out 0 (refusedSheet (numberOf n)) out₃ r₃
 unfolding refusedSheet
 put-refused-parts n {out} {out₁} {out₂} {out₃} {k} {r₁} {r₂} {r₃} e h p q r =
@@ -158,22 +179,22 @@ module _ (atoms most : ℕ) (log : List ℕ) (a : Answer) where
   finished-fits c e h = subst (Fits atoms most log) e h
 
 -- the longest sheet
-sheet-length : (b : List ℕ) (j : Judgement) → judgementOf b ≡ j → length (sheetBy j b) ≤ 5041
+sheet-length : (b : List ℕ) (j : Judgement) → judgementOf Old b ≡ j → length (sheetBy j (theoryOf Old b)) ≤ 5041
 unfolding sheetBy
 sheet-length b (judgement.Refused n) e = let h = refused-length (numberOf n) (number-small n) in omega arith
 sheet-length b (judgement.Accepted s) e =
-    run-length (theoryOf b .atoms) (logOf (runOf b (budgetOf b))) (runOf b (budgetOf b) .spent) (budgetOf b)
-    (omega (arith, atoms-read b s e, few b s e .atoms)) (omega (arith, run-demands b s e .within, bound-small b s e)) (bound-small b s e)
+    subst (λ d. length (sheetBy (judgement.Accepted s) d) ≤ 5041) (theory-read Old b s e) (sheet-short (layoutOf Old b) s (legal Old b s e))
 
 pub printed : (b out : List ℕ) (r : ℕ) → Put (replicate 5041 0) 0 (sheetOf b) out r → Printed b out r
 printed b out r p =
     record {
       text = put-zeros 5041 (sheetOf b) out r p;
       count = omega (arith, p .end);
-      most = omega (arith, p .end, sheet-length b (judgementOf b) refl);
+      most = omega (arith, p .end, sheet-length b (judgementOf Old b) refl);
       fits = (inside, sym (length-take-le r out inside));
-      finished = run-finished b;
-      demands = run-demands b;
+      finished = λ s e. subst (λ d. T (runOf d (budgetOf d) .finished)) (theory-read Old b s e) (run-finished (layoutOf Old b) s (legal Old b s e));
+      demands =
+          λ s e. subst (λ d. Demands (plainSystem d) (bound d) (5 * size d) (budgetOf d)) (theory-read Old b s e) (run-demands (layoutOf Old b) s (legal Old b s e));
     }
   where
     whole : length out ≡ 5041
@@ -181,7 +202,7 @@ printed b out r p =
         ap length (put-zeros 5041 (sheetOf b) out r p)
         ∙ (let e = length-append (sheetOf b) (replicate (5041 - length (sheetOf b)) 0) in
         let f = length-replicate {A = ℕ} (5041 - length (sheetOf b)) 0 in
-        let g = sheet-length b (judgementOf b) refl in omega arith)
+        let g = sheet-length b (judgementOf Old b) refl in omega arith)
 
     inside : r ≤ length out
-    inside = omega (arith, p .end, sheet-length b (judgementOf b) refl, whole)
+    inside = omega (arith, p .end, sheet-length b (judgementOf Old b) refl, whole)

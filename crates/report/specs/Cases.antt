@@ -8,8 +8,12 @@ use lib.ListN.{length, replicate}
 use Rattle.logic.specs.Tests.{_and_, upto}
 use Rattle.logic.specs.Verdict.{Verdict, clash, go, split, «open»}
 use Rattle.logic.specs.Cases.{sameList}
+use Rattle.logic.specs.Theory.{Theory}
 use Rattle.table.specs.declared.judge.Judgement.{Judgement}
 use Rattle.table.specs.declared.judge.Judgement.the-variants.{Accepted, Refused}
+use Rattle.table.specs.declared.edition.Edition.the-variants.{Old}
+use Rattle.table.specs.Format.{theoryOf}
+use Rattle.table.specs.Refusals.{judgementOf}
 use Rattle.engine.specs.declared.answer.Numbers.{Numbers}
 use Rattle.engine.specs.Answers.{numbersOf, runOf, callJudgement, answerTo, logAfter}
 use Rattle.report.specs.Text.{wordOf, space}
@@ -54,14 +58,14 @@ sameNumbers r n =
 
 -- What the row gives, by the judgement with its lengths. Each word of the log that is borrowed is 9 before, and those past the lines
 -- are 9 after.
-unfoldable pub givesBy : Row → List ℕ → Judgement → Bool
-givesBy r b j =
-    sameNumbers r (numbersOf (answerTo j (runOf b (r .budget))))
-    and sameList (logAfter j (runOf b (r .budget)) (replicate (r .log) 9)) (r .lines ++ replicate (r .log - length (r .lines)) 9)
-    and eqb (budgetOf b) (r .most) and sameList (wordsOf (verdictsOf j (r .lines))) (wordsOf (r .verdicts))
+unfoldable pub givesBy : Row → Theory → Judgement → Bool
+givesBy r d j =
+    sameNumbers r (numbersOf (answerTo j (runOf d (r .budget))))
+    and sameList (logAfter j (runOf d (r .budget)) (replicate (r .log) 9)) (r .lines ++ replicate (r .log - length (r .lines)) 9)
+    and eqb (budgetOf d) (r .most) and sameList (wordsOf (verdictsOf j (r .lines))) (wordsOf (r .verdicts))
 
 unfoldable pub gives : Row → List ℕ → Bool
-gives r b = givesBy r b (callJudgement b (r .budget) (r .scratch) (r .log))
+gives r b = givesBy r (theoryOf Old b) (callJudgement (judgementOf Old b) (theoryOf Old b) (r .budget) (r .scratch) (r .log))
 
 unfoldable pub allGive : List Row → Bool
 allGive [] = true

@@ -1,10 +1,11 @@
--- Document 01, The sheet: the bytes that are printed for a table, and what `sheet_of` hands over.
+-- Document 01, The sheet: the bytes that are printed for a table, and what `sheet_of` hands over. "`sheet` reads the old layout" (document
+-- 02, S-5).
 use Prim.Native.Nat.{ℕ, zero, suc, _+_, _-_, _*_, _≤_}
 use mathlib.Core.Path.{_≡_}
 use mathlib.Core.List.{List, [], _++_}
 use lib.Dec.{T}
 use lib.ListN.{length, take, replicate}
-use Rattle.logic.specs.Theory.{size}
+use Rattle.logic.specs.Theory.{Theory, size}
 use Rattle.logic.specs.System.{held}
 use Rattle.logic.specs.Worklist.{logOf}
 use Rattle.logic.specs.Reading.{taggedBy}
@@ -14,6 +15,7 @@ use Rattle.logic.specs.Verdict.{Verdict, verdict}
 use Rattle.table.specs.declared.format.Sizes.{Sizes}
 use Rattle.table.specs.declared.judge.Judgement.{Judgement}
 use Rattle.table.specs.declared.judge.Judgement.the-variants.{Accepted, Refused}
+use Rattle.table.specs.declared.edition.Edition.the-variants.{Old}
 use Rattle.table.specs.Format.{theoryOf}
 use Rattle.table.specs.Refusals.{numberOf, judgementOf}
 use Rattle.engine.specs.Answers.{runOf}
@@ -47,16 +49,15 @@ unfoldable pub refusedSheet : ℕ → List ℕ
 refusedSheet n = refusedWord ++ decimal n ++ newline
 
 -- The program "runs with budget 5A+F+N+3B+3P, and prints."
-abbrev pub budgetOf : List ℕ → ℕ
-budgetOf b = bound (theoryOf b)
+abbrev pub budgetOf : Theory → ℕ
+budgetOf d = bound d
 
-unfoldable pub sheetBy : Judgement → List ℕ → List ℕ
-sheetBy (Accepted s) b =
-    runSheet (theoryOf b .atoms) (logOf (runOf b (budgetOf b))) (runOf b (budgetOf b) .spent) (bound (theoryOf b))
-sheetBy (Refused n) b = refusedSheet (numberOf n)
+unfoldable pub sheetBy : Judgement → Theory → List ℕ
+sheetBy (Accepted s) d = runSheet (d .atoms) (logOf (runOf d (budgetOf d))) (runOf d (budgetOf d) .spent) (bound d)
+sheetBy (Refused n) d = refusedSheet (numberOf n)
 
 abbrev pub sheetOf : List ℕ → List ℕ
-sheetOf b = sheetBy (judgementOf b) b
+sheetOf b = sheetBy (judgementOf Old b) (theoryOf Old b)
 
 -- What `sheet_of` hands over: the array, which has the sheet and then zeros, and its length; the run behind an accepted table's
 -- sheet finished, and demands 2 and 3 hold of it.
@@ -66,6 +67,6 @@ pub record Printed (b bytes : List ℕ) (n : ℕ) : Type 0 where
   pub most : n ≤ 5041
   -- the part `&bytes[..n]` is there (it follows; a caller's proof finds it in this form)
   pub fits : (n ≤ length bytes) × (n ≡ length (take n bytes))
-  pub finished : (s : Sizes) → judgementOf b ≡ Accepted s → T (runOf b (budgetOf b) .finished)
-  pub demands : (s : Sizes) → judgementOf b ≡ Accepted s
-      → Demands (plainSystem (theoryOf b)) (bound (theoryOf b)) (5 * size (theoryOf b)) (budgetOf b)
+  pub finished : (s : Sizes) → judgementOf Old b ≡ Accepted s → T (runOf (theoryOf Old b) (budgetOf (theoryOf Old b)) .finished)
+  pub demands : (s : Sizes) → judgementOf Old b ≡ Accepted s
+      → Demands (plainSystem (theoryOf Old b)) (bound (theoryOf Old b)) (5 * size (theoryOf Old b)) (budgetOf (theoryOf Old b))

@@ -1,4 +1,4 @@
-// Document 01, The sheet: judged, run with the bound as budget, and printed into an array.
+// Document 01, The sheet: a table in the old layout (document 02, S-5) judged, run with the bound as budget, and printed into an array.
 ghost use Prim.Native.Nat.{_+_, _*_, _≤_};
 ghost use mathlib.Core.Path.{_≡_};
 ghost use lib.ListN.{length, take};
@@ -14,14 +14,15 @@ use crate::text::put_number;
 use crate::verdict::Verdict;
 use crate::verdict::put_verdict;
 use crate::verdict::verdict_of;
+use content::readers::sizes_of;
 use engine::answer::Answer;
 use engine::answer::Counts;
 use engine::run::SCRATCH;
 use engine::run::run;
 use standing::marks::marks_of;
+use table::edition::Edition;
 use table::format::Literal;
 use table::format::Sizes;
-use table::format::read_sizes;
 use table::judge::Refusal;
 
 // A sheet: its bytes, and zeros past them. The longest has 5,041: 512 atoms that clash or are split, and five digits spent of five.
@@ -92,7 +93,7 @@ fn put_run(out: &mut [u8], atoms: u16, log: &[u16], c: Counts, most: u32) -> usi
 
 // `refused 7`
 fn put_refused(out: &mut [u8], why: Refusal) -> usize
-    requires { ⌜ 10 ≤ length (now out) ⌝ }
+    requires { ⌜ 11 ≤ length (now out) ⌝ }
     ensures { λ r. ⌜ Put (now (out .entry)) 0 (refusedSheet (numberOf why)) (now (out .exit)) r ⌝ }
 {
     let word = put(out, 0, b"refused ");
@@ -115,11 +116,11 @@ fn put_sheet(table: &[u8], out: &mut [u8]) -> usize
     requires { ⌜ length (now out) ≡ 5041 ⌝ }
     ensures { λ r. ⌜ Put (now (out .entry)) 0 (sheetOf (now (table .entry))) (now (out .exit)) r ⌝ }
 {
-    let s = read_sizes(table);
+    let s = sizes_of(table, Edition::Old);
     let most = bound_of(s);
     let mut log = [0u16; 4 * Sizes::MAX_ATOMS as usize];
     let mut scratch = [0u16; SCRATCH];
-    match run(table, most, &mut log, &mut scratch) {
+    match run(table, Edition::Old, most, &mut log, &mut scratch) {
         Answer::Refused(why) => put_refused(out, why),
         Answer::Stopped(c) => put_run(out, s.atoms, &log, c, most),
         Answer::Finished(c) => put_run(out, s.atoms, &log, c, most),

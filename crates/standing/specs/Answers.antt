@@ -3,6 +3,7 @@ use Prim.Native.Nat.{ℕ}
 use mathlib.Core.Bool.{cond}
 use mathlib.Core.List.{List}
 use lib.Dec.{ltb}
+use Rattle.logic.specs.Theory.{Theory}
 use Rattle.logic.specs.System.{held}
 use Rattle.logic.specs.Reading.{taggedBy}
 use Rattle.logic.specs.Inference.{+∂, −∂}
@@ -13,6 +14,7 @@ use Rattle.table.specs.declared.format.Sizes.{Sizes}
 use Rattle.table.specs.declared.judge.Refusal.the-variants.{OutOfRange}
 use Rattle.table.specs.declared.judge.Judgement.{Judgement}
 use Rattle.table.specs.declared.judge.Judgement.the-variants as judgement
+use Rattle.table.specs.declared.edition.Edition.{Edition}
 use Rattle.table.specs.Format.{bodyIn, theoryOf}
 use Rattle.table.specs.Refusals.{numberOf, judgementOf}
 use Rattle.standing.specs.declared.answer.Standing.{Standing}
@@ -40,16 +42,16 @@ numbersOf (Refused n) = refusalNumbers (numberOf n)
 numbersOf (Stands x) = standingNumbers (meant x)
 
 -- how a rule stands by ∂ over the lines of a log; a word that is no line of the table has no part in it
-abbrev pub standingIn : List ℕ → ℕ → List ℕ → logic.Standing
-standingIn b r log = standing (theoryOf b) 1 (taggedBy 4 (held log)) r
+abbrev pub standingIn : Theory → ℕ → List ℕ → logic.Standing
+standingIn d r log = standing d 1 (taggedBy 4 (held log)) r
 
 -- a refusal 1 to 7 of the table; 5, "a rule number not below N", of the rule; or how it stands
-unfoldable pub answerWith : Judgement → List ℕ → ℕ → List ℕ → StandingNumbers
-answerWith (judgement.Accepted s) b r log = cond (ltb r (s .rules)) (standingNumbers (standingIn b r log)) (refusalNumbers (numberOf OutOfRange))
-answerWith (judgement.Refused n) b r log = refusalNumbers (numberOf n)
+unfoldable pub answerWith : Judgement → Theory → ℕ → List ℕ → StandingNumbers
+answerWith (judgement.Accepted s) d r log = cond (ltb r (s .rules)) (standingNumbers (standingIn d r log)) (refusalNumbers (numberOf OutOfRange))
+answerWith (judgement.Refused n) d r log = refusalNumbers (numberOf n)
 
-abbrev pub standingOf : List ℕ → ℕ → List ℕ → StandingNumbers
-standingOf b r log = answerWith (judgementOf b) b r log
+abbrev pub standingOf : Edition → List ℕ → ℕ → List ℕ → StandingNumbers
+standingOf e b r log = answerWith (judgementOf e b) (theoryOf e b) r log
 
 -- the standing by the marks of a log
 unfoldable pub standingBy : List ℕ → Sizes → ℕ → List ℕ → logic.Standing

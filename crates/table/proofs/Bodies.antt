@@ -1,28 +1,30 @@
 -- The part of the right array that holds a rule's entries. Assumes nothing.
-use Prim.Native.Nat.{ℕ, zero, suc, _+_, _-_, _*_, _/_, _≤_, _<_}
+use Prim.Native.Nat.{ℕ, suc, _+_, _-_, _*_, _/_, _≤_, _<_}
 use native.Mathlib.Nat.{lt-irrefl, le-of-suc-le-suc}
 use native.Mathlib.Omega.{arith}
 use mathlib.Core.Path.{_≡_, refl, sym, _∙_, ap, ap₂, subst}
 use borrow.Author.Tests.{le-ltb}
 use mathlib.Core.Logic.{⊎-elim}
 use mathlib.Core.Bool.{false, cond}
-use mathlib.Core.List.{List, [], _∷_, map, map-append}
+use mathlib.Core.List.{List, [], _∷_, map}
 use lib.Dec.{T, ltb, eqb, eqb→eq, ltb→lt, lt→ltb}
 use lib.ListN.{length, take, drop, getD, length-take, length-drop}
 use lib.Seq.{getD-take, getD-drop}
 use Rattle.logic.specs.Tests.{member, upto, pick}
 use Rattle.logic.proofs.Tests.{at-most, cond-true, eq→eqb}
 use Rattle.logic.proofs.Lists.{member-here, member-there, member-map, member-map-intro, member-upto, member-upto-intro, member-pick, member-pick-intro}
-use Rattle.logic.proofs.Rising.{risingFrom, rising-snoc, rising-upto, rising-pick, rising-same, count-down, count-up}
+use Rattle.logic.proofs.Rising.{rising-map, rising-upto, rising-pick, rising-same, count-down, count-up}
 use Rattle.logic.proofs.Sums.{total-le, weigh-imply}
 use Rattle.logic.proofs.Pigeon.{count-le}
 use Rattle.table.specs.declared.format.Sizes.{Sizes}
+use Rattle.table.specs.declared.edition.Edition.{Edition}
+use Rattle.table.specs.Editions.{layoutOf}
 use Rattle.table.specs.Format.{word, spanOf, entriesFrom, entryAt, bodyIn}
 use Rattle.table.specs.Bodies.{entriesBelow, entryByte, bodyPart, bodyBytes, bodyLiterals, wordsOf, Body}
 use Rattle.table.specs.declared.judge.Refusal.{Refusal}
 use Rattle.table.specs.declared.judge.Judgement.the-variants.{Accepted, Refused}
-use Rattle.table.specs.Refusals.{disorder, judgementOf}
-use Rattle.table.proofs.Legal.{right-in, Legal, legal, whole-length, ranged, body-entry, rule-below}
+use Rattle.table.specs.Refusals.{disorder, judgementOf, Legal}
+use Rattle.table.proofs.Legal.{right-in, legal, whole-length, ranged, body-entry, rule-below}
 use Rattle.table.proofs.Sorted.{before-left, entries-rise}
 
 pub below-bound : (b : List ℕ) (s : Sizes) (r : ℕ) → entriesBelow b s r ≤ s .entries
@@ -62,18 +64,8 @@ map-map : (f g : ℕ → ℕ) (l : List ℕ) → map f (map g l) ≡ map (λ x. 
 map-map f g [] = refl
 map-map f g (x ∷ l) = ap (λ k. f (g x) ∷ k) (map-map f g l)
 
--- numbers from a on, strictly rising
-rising-shift : (a n : ℕ) → T (risingFrom 0 (map (λ j. a + j) (upto n)))
-unfolding risingFrom upto
-rising-shift a zero = tt
-rising-shift a (suc n) =
-    subst (λ k. T (risingFrom 0 k)) (sym (map-append (λ j. a + j) (upto n) (n ∷ [])))
-    (rising-snoc 0 (map (λ j. a + j) (upto n)) (a + n) (omega arith) (rising-shift a n)
-    (λ z m. let (j, u, e) = member-map (λ i. a + i) (upto n) z m in
-    let h : j < n = member-upto n j u in omega arith))
-
 -- the words of a part of a file
-word-inside : (l : List ℕ) (j : ℕ) → 2 * j + 1 < length l → word l j ≡ getD l (2 * j) 0 + 256 * getD l (2 * j + 1) 0
+pub word-inside : (l : List ℕ) (j : ℕ) → 2 * j + 1 < length l → word l j ≡ getD l (2 * j) 0 + 256 * getD l (2 * j + 1) 0
 unfolding word
 word-inside l j h = cond-true (ltb j (length l / 2)) _ _ (lt→ltb j (length l / 2) (omega arith))
 
@@ -122,7 +114,7 @@ module _ (b : List ℕ) (s : Sizes) (w : length b ≡ 10 + 4 * spanOf s) (o : di
   -- the entries of rule r stand from a on, before z
   run : map (λ j. a + j) (upto (z - a)) ≡ pick (upto (s .entries)) (λ i. eqb (rule i) r)
   unfolding a z
-  run = rising-same 0 _ _ (rising-shift a (z - a)) (rising-pick 0 (upto (s .entries)) _ (rising-upto (s .entries))) inside outside
+  run = rising-same 0 _ _ (rising-map (λ j. a + j) (z - a) (λ i j h l. omega arith)) (rising-pick 0 (upto (s .entries)) _ (rising-upto (s .entries))) inside outside
     where
       last : z ≤ s .entries
       last = below-bound b s (r + 1)
@@ -179,23 +171,33 @@ module _ (b : List ℕ) (s : Sizes) (w : length b ≡ 10 + 4 * spanOf s) (o : di
           part-word b k (z - a) j fits l ∙ ap (word b) (let e : k + j ≡ 5 + spanOf s + (entriesFrom s + (a + j)) = omega arith in e)
           ∙ sym (right-in b s (entriesFrom s) (s .entries) (a + j) (omega (arith, last)))
 
+-- the layout that was taken has its length
+pub read-length : (e : Edition) (b : List ℕ) (s : Sizes) {k : List ℕ} → judgementOf e b ≡ Accepted s → k ≡ layoutOf e b → length k ≡ 10 + 4 * spanOf s
+read-length e b s a f = ap length f ∙ whole-length (layoutOf e b) s (legal e b s a .whole)
+
 -- what is handed back, by the judgement
-pub accepted-body : (b : List ℕ) (r : ℕ) (s : Sizes) (l : List ℕ) → judgementOf b ≡ Accepted s → l ≡ bodyPart b s r → Body b r l
+pub accepted-body : (e : Edition) (b : List ℕ) (r : ℕ) (s : Sizes) (l : List ℕ) {k : List ℕ} → judgementOf e b ≡ Accepted s → k ≡ layoutOf e b → l ≡ bodyPart k s r
+    → Body e b r l
 unfolding bodyBytes bodyLiterals upto
-accepted-body b r s l e f =
+accepted-body e b r s l {k} a h f =
     record {
-      bytes = f ∙ ap (λ j. bodyBytes b j r) (sym e);
-      literals = ap wordsOf f ∙ ⊎-elim (body-words b s (whole-length b s (g .whole)) (g .sorted) r) none (at-most (suc r) (s .rules)) ∙ ap (λ j. bodyLiterals b j r) (sym e);
+      bytes = taken ∙ ap (λ j. bodyBytes (layoutOf e b) j r) (sym a);
+      literals =
+          ap wordsOf taken ∙ ⊎-elim (body-words (layoutOf e b) s (whole-length (layoutOf e b) s (g .whole)) (g .sorted) r) none (at-most (suc r) (s .rules))
+          ∙ ap (λ j. bodyLiterals (layoutOf e b) j r) (sym a);
     }
   where
-    g : Legal b s
-    g = legal b s e
+    taken : l ≡ bodyPart (layoutOf e b) s r
+    taken = f ∙ ap (λ z. bodyPart z s r) h
 
-    none : s .rules < suc r → wordsOf (bodyPart b s r) ≡ bodyIn b s r
-    none h = ap wordsOf (sym (part-none b s r (le-of-suc-le-suc h))) ∙ sym (empty-list (bodyIn b s r) (λ q m.
-        let (i, k, u, _) = body-entry b s (ranged b s (g .ranges)) r q m in
-        lt-irrefl r (omega (arith, rule-below b s (ranged b s (g .ranges)) i k))))
+    g : Legal (layoutOf e b) s
+    g = legal e b s a
 
-pub refused-body : (b : List ℕ) (r : ℕ) (n : Refusal) → judgementOf b ≡ Refused n → Body b r []
+    none : s .rules < suc r → wordsOf (bodyPart (layoutOf e b) s r) ≡ bodyIn (layoutOf e b) s r
+    none h = ap wordsOf (sym (part-none (layoutOf e b) s r (le-of-suc-le-suc h))) ∙ sym (empty-list (bodyIn (layoutOf e b) s r) (λ q m.
+        let (i, k, u, _) = body-entry (layoutOf e b) s (ranged (layoutOf e b) s (g .ranges)) r q m in
+        lt-irrefl r (omega (arith, rule-below (layoutOf e b) s (ranged (layoutOf e b) s (g .ranges)) i k))))
+
+pub refused-body : (e : Edition) (b : List ℕ) (r : ℕ) (n : Refusal) → judgementOf e b ≡ Refused n → Body e b r []
 unfolding bodyBytes bodyLiterals upto
-refused-body b r n e = record { bytes = ap (λ j. bodyBytes b j r) (sym e); literals = ap (λ j. bodyLiterals b j r) (sym e) }
+refused-body e b r n f = record { bytes = ap (λ j. bodyBytes (layoutOf e b) j r) (sym f); literals = ap (λ j. bodyLiterals (layoutOf e b) j r) (sym f) }

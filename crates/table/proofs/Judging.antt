@@ -1,6 +1,6 @@
 -- The judgement, fault by fault. Assumes nothing.
 use Prim.Native.Nat.{ℕ, _+_, _*_, _≤_, _<_}
-use mathlib.Core.Path.{_≡_, refl, sym, _∙_, ap}
+use mathlib.Core.Path.{_≡_, refl, sym, _∙_, ap, subst}
 use mathlib.Core.Logic.{⊎-elim}
 use mathlib.Core.Bool.{Bool, true, false, cond}
 use mathlib.Core.List.{List}
@@ -14,8 +14,10 @@ use Rattle.table.specs.declared.judge.Refusal.{Refusal}
 use Rattle.table.specs.declared.judge.Refusal.the-variants.{Truncated, TooLarge, WrongLength, BadKind, OutOfRange, Unsorted, Cyclic}
 use Rattle.table.specs.declared.judge.Judgement.{Judgement}
 use Rattle.table.specs.declared.judge.Judgement.the-variants.{Accepted, Refused}
+use Rattle.table.specs.declared.edition.Edition.{Edition}
+use Rattle.table.specs.Editions.{layoutOf, unmarked}
 use Rattle.table.specs.Format.{sizesOf, spanOf}
-use Rattle.table.specs.Refusals.{numberOf, oversize, wrongLength, badKind, outOfRange, disorder, cycle, judged, judgementOf, refusedBy, faults, firstFrom, Judged}
+use Rattle.table.specs.Refusals.{numberOf, truncated, oversize, wrongLength, badKind, outOfRange, disorder, cycle, judged, judgementOf, refusedBy, faults, firstFrom, Judged}
 use Rattle.table.proofs.Legal.{or-fails}
 
 -- a test read as a flag
@@ -57,53 +59,61 @@ unfolding refusedBy
 number-past true n j e = refl
 number-past false n j e = e
 
-judged-number : (b : List ℕ) → refusedBy (judgementOf b) ≡ firstFrom 1 (faults b (sizesOf b))
+judged-number : (e : Edition) (b : List ℕ) → refusedBy (judgementOf e b) ≡ firstFrom 1 (faults e b)
 unfolding judgementOf judged firstFrom refusedBy
-judged-number b =
-    number-past (ltb (length b) 10) Truncated _ (number-past (oversize (sizesOf b)) TooLarge _ (number-past (wrongLength b (sizesOf b)) WrongLength _
-    (number-past (badKind b (sizesOf b)) BadKind _ (number-past (outOfRange b (sizesOf b)) OutOfRange _
-    (number-past (disorder b (sizesOf b)) Unsorted _ (number-past (cycle b (sizesOf b)) Cyclic (Accepted (sizesOf b)) refl))))))
+judged-number e b =
+    let l = layoutOf e b in
+    number-past (truncated e b) Truncated _ (number-past (oversize (sizesOf l)) TooLarge _ (number-past (wrongLength l (sizesOf l)) WrongLength _
+    (number-past (badKind e l (sizesOf l)) BadKind _ (number-past (outOfRange l (sizesOf l)) OutOfRange _
+    (number-past (disorder l (sizesOf l)) Unsorted _ (number-past (cycle l (sizesOf l)) Cyclic (Accepted (sizesOf l)) refl))))))
 
-judged-as : (b : List ℕ) (x : Judgement) → x ≡ judgementOf b → Judged b x
-judged-as b x e = record { judgement = e; number = ap refusedBy e ∙ judged-number b }
+judged-as : (e : Edition) (b : List ℕ) (x : Judgement) → x ≡ judgementOf e b → Judged e b x
+judged-as e b x f = record { judgement = f; number = ap refusedBy f ∙ judged-number e b }
 
-pub judged-short : (b : List ℕ) → length b < 10 → Judged b (Refused Truncated)
-unfolding judgementOf
-judged-short b h = judged-as b (Refused Truncated) (simp (lt-ltb (length b) 10 h))
+-- by the first byte and the number of bytes, and then by the layout that was taken
+module _ (e : Edition) (b : List ℕ) where
+  pub judged-unmarked : {r : Bool} → r ≡ unmarked e b → r ≡ true → Judged e b (Refused Truncated)
+  unfolding judgementOf truncated _or_
+  judged-unmarked f g = judged-as e b (Refused Truncated) (simp (flag f g))
 
--- by the sizes that were read
-pub judged-by : (b : List ℕ) (s : Sizes) (x : Judgement) → s ≡ sizesOf b → 10 ≤ length b → x ≡ judged b s → Judged b x
-unfolding judgementOf
-judged-by b s x e h f = judged-as b x (simp (le-ltb (length b) 10 h) (f ∙ ap (judged b) e))
+  module _ {r : Bool} (f : r ≡ unmarked e b) (g : r ≡ false) (l : List ℕ) (h : l ≡ layoutOf e b) where
+    pub judged-short : length l < 10 → Judged e b (Refused Truncated)
+    unfolding judgementOf truncated _or_
+    judged-short k = judged-as e b (Refused Truncated) (simp (flag f g, lt-ltb (length (layoutOf e b)) 10 (subst (λ z. length z < 10) h k)))
 
-module _ (b : List ℕ) (s : Sizes) where
-  pub judged-2 : oversize s ≡ true → Refused TooLarge ≡ judged b s
+    pub judged-by : (x : Judgement) → 10 ≤ length l → x ≡ judged e l (sizesOf l) → Judged e b x
+    unfolding judgementOf truncated _or_
+    judged-by x k i =
+        judged-as e b x (simp (flag f g, le-ltb (length (layoutOf e b)) 10 (subst (λ z. 10 ≤ length z) h k)) (i ∙ ap (λ z. judged e z (sizesOf z)) h))
+
+module _ (e : Edition) (b : List ℕ) (s : Sizes) where
+  pub judged-2 : oversize s ≡ true → Refused TooLarge ≡ judged e b s
   unfolding judged
-  judged-2 e = simp e
+  judged-2 d = simp d
 
-  pub judged-3 : oversize s ≡ false → wrongLength b s ≡ true → Refused WrongLength ≡ judged b s
+  pub judged-3 : oversize s ≡ false → wrongLength b s ≡ true → Refused WrongLength ≡ judged e b s
   unfolding judged
-  judged-3 e f = simp (e, f)
+  judged-3 d f = simp (d, f)
 
-  pub judged-4 : oversize s ≡ false → wrongLength b s ≡ false → badKind b s ≡ true → Refused BadKind ≡ judged b s
+  pub judged-4 : oversize s ≡ false → wrongLength b s ≡ false → badKind e b s ≡ true → Refused BadKind ≡ judged e b s
   unfolding judged
-  judged-4 e f g = simp (e, f, g)
+  judged-4 d f g = simp (d, f, g)
 
-  pub judged-5 : oversize s ≡ false → wrongLength b s ≡ false → badKind b s ≡ false → outOfRange b s ≡ true → Refused OutOfRange ≡ judged b s
+  pub judged-5 : oversize s ≡ false → wrongLength b s ≡ false → badKind e b s ≡ false → outOfRange b s ≡ true → Refused OutOfRange ≡ judged e b s
   unfolding judged
-  judged-5 e f g h = simp (e, f, g, h)
+  judged-5 d f g h = simp (d, f, g, h)
 
-  pub judged-6 : oversize s ≡ false → wrongLength b s ≡ false → badKind b s ≡ false → outOfRange b s ≡ false → disorder b s ≡ true
-      → Refused Unsorted ≡ judged b s
+  pub judged-6 : oversize s ≡ false → wrongLength b s ≡ false → badKind e b s ≡ false → outOfRange b s ≡ false → disorder b s ≡ true
+      → Refused Unsorted ≡ judged e b s
   unfolding judged
-  judged-6 e f g h i = simp (e, f, g, h, i)
+  judged-6 d f g h i = simp (d, f, g, h, i)
 
-  pub judged-7 : oversize s ≡ false → wrongLength b s ≡ false → badKind b s ≡ false → outOfRange b s ≡ false → disorder b s ≡ false → cycle b s ≡ true
-      → Refused Cyclic ≡ judged b s
+  pub judged-7 : oversize s ≡ false → wrongLength b s ≡ false → badKind e b s ≡ false → outOfRange b s ≡ false → disorder b s ≡ false → cycle b s ≡ true
+      → Refused Cyclic ≡ judged e b s
   unfolding judged
-  judged-7 e f g h i j = simp (e, f, g, h, i, j)
+  judged-7 d f g h i j = simp (d, f, g, h, i, j)
 
-  pub judged-0 : oversize s ≡ false → wrongLength b s ≡ false → badKind b s ≡ false → outOfRange b s ≡ false → disorder b s ≡ false → cycle b s ≡ false
-      → Accepted s ≡ judged b s
+  pub judged-0 : oversize s ≡ false → wrongLength b s ≡ false → badKind e b s ≡ false → outOfRange b s ≡ false → disorder b s ≡ false → cycle b s ≡ false
+      → Accepted s ≡ judged e b s
   unfolding judged
-  judged-0 e f g h i j = simp (e, f, g, h, i, j)
+  judged-0 d f g h i j = simp (d, f, g, h, i, j)

@@ -1,11 +1,11 @@
--- What an accepted table has. Assumes nothing.
+-- What an accepted table has: the layout b is legal, and what that is. Assumes nothing.
 use Prim.Native.Nat.{ℕ, zero, suc, _+_, _-_, _*_, _≤_, _<_}
 use native.Mathlib.Nat.{lt-of-not-le, not-suc-le-zero, zero-lt-suc, mul-one}
 use mathlib.Core.Path.{_≡_, refl, sym, _∙_, ap, subst}
 use mathlib.Core.Logic.{⊎-elim}
 use mathlib.Core.Bool.{Bool, true, false, cond, true≢false}
 use mathlib.Core.List.{List}
-use borrow.Author.Tests.{ltb-false, lt-ltb}
+use borrow.Author.Tests.{ltb-false, lt-ltb, le-ltb}
 use lib.Dec.{T, ltb, eqb, eqb→eq, lt→ltb, le→leb}
 use lib.ListN.{length, length-map}
 use Rattle.logic.specs.Tests.{_and_, _or_, weigh, upto, pick, member}
@@ -21,19 +21,10 @@ use Rattle.table.specs.declared.judge.Refusal.{Refusal}
 use Rattle.table.specs.declared.judge.Refusal.the-variants.{Truncated, TooLarge, WrongLength, BadKind, OutOfRange, Unsorted, Cyclic}
 use Rattle.table.specs.declared.judge.Judgement.{Judgement}
 use Rattle.table.specs.declared.judge.Judgement.the-variants.{Accepted, Refused}
-use Rattle.table.specs.Format.{sizesOf, spanOf, left, right, leftIn, rightIn, factsFrom, rulesFrom, entriesFrom, pairsFrom, entryAt, pairAt, ruleAt, bodyIn, theoryIn}
-use Rattle.table.specs.Refusals.{oversize, wrongLength, someAtLeast, badKind, outOfRange, disorder, cycle, judged, judgementOf}
-
--- No number applies: the sizes are those of the first five words, and each fault's test fails.
-pub record Legal (b : List ℕ) (s : Sizes) : Type 0 where
-  pub long : 10 ≤ length b
-  pub read : sizesOf b ≡ s
-  pub limits : oversize s ≡ false
-  pub whole : wrongLength b s ≡ false
-  pub kinds : badKind b s ≡ false
-  pub ranges : outOfRange b s ≡ false
-  pub sorted : disorder b s ≡ false
-  pub acyclic : cycle b s ≡ false
+use Rattle.table.specs.declared.edition.Edition.{Edition}
+use Rattle.table.specs.Editions.{layoutOf, unmarked}
+use Rattle.table.specs.Format.{sizesOf, spanOf, left, right, leftIn, rightIn, factsFrom, rulesFrom, entriesFrom, pairsFrom, entryAt, pairAt, ruleAt, bodyIn, theoryIn, theoryOf}
+use Rattle.table.specs.Refusals.{truncated, oversize, wrongLength, someAtLeast, badFact, badKind, outOfRange, disorder, cycle, judged, judgementOf, Legal}
 
 isAccepted : Judgement → Bool
 isAccepted (Accepted s) = true
@@ -43,37 +34,98 @@ sizesOr : Sizes → Judgement → Sizes
 sizesOr s (Accepted t) = t
 sizesOr s (Refused n) = s
 
--- a judgement that goes on past a fault
-pass : (t : Bool) (n : Refusal) (j : Judgement) (s : Sizes) → cond t (Refused n) j ≡ Accepted s → (t ≡ false) × (j ≡ Accepted s)
+-- a judgement accepts or refuses, and has its sizes
+pub refused-not : {n : Refusal} {s : Sizes} → Refused n ≡ Accepted s → ⊥
 unfolding isAccepted
-pass true n j s e = absurd (true≢false (sym (ap isAccepted e)))
+refused-not e = true≢false (sym (ap isAccepted e))
+
+pub accepted-one : {s t : Sizes} → Accepted s ≡ Accepted t → s ≡ t
+unfolding sizesOr
+accepted-one {s} e = ap (sizesOr s) e
+
+-- a judgement that goes on past a fault
+pub pass : (t : Bool) (n : Refusal) (j : Judgement) (s : Sizes) → cond t (Refused n) j ≡ Accepted s → (t ≡ false) × (j ≡ Accepted s)
+pass true n j s e = absurd (refused-not e)
 pass false n j s e = (refl, e)
 
-pub legal : (b : List ℕ) (s : Sizes) → judgementOf b ≡ Accepted s → Legal b s
-unfolding judgementOf judged sizesOr
-legal b s e =
-    let (e1, f1) = pass (ltb (length b) 10) Truncated (judged b (sizesOf b)) s e in
-    let (e2, f2) = pass (oversize (sizesOf b)) TooLarge _ s f1 in
-    let (e3, f3) = pass (wrongLength b (sizesOf b)) WrongLength _ s f2 in
-    let (e4, f4) = pass (badKind b (sizesOf b)) BadKind _ s f3 in
-    let (e5, f5) = pass (outOfRange b (sizesOf b)) OutOfRange _ s f4 in
-    let (e6, f6) = pass (disorder b (sizesOf b)) Unsorted _ s f5 in
-    let (e7, f7) = pass (cycle b (sizesOf b)) Cyclic (Accepted (sizesOf b)) s f6 in
-    let r : sizesOf b ≡ s = ap (sizesOr s) f7 in
+-- no fault applies
+pub record Passed (e : Edition) (b : List ℕ) (s : Sizes) : Type 0 where
+  pub whole : truncated e b ≡ false
+  pub read : sizesOf (layoutOf e b) ≡ s
+  pub limits : oversize s ≡ false
+  pub length : wrongLength (layoutOf e b) s ≡ false
+  pub kinds : badKind e (layoutOf e b) s ≡ false
+  pub ranges : outOfRange (layoutOf e b) s ≡ false
+  pub sorted : disorder (layoutOf e b) s ≡ false
+  pub acyclic : cycle (layoutOf e b) s ≡ false
+
+pub passed : (e : Edition) (b : List ℕ) (s : Sizes) → judgementOf e b ≡ Accepted s → Passed e b s
+unfolding judgementOf judged
+passed e b s a =
+    let (e1, f1) = pass (truncated e b) Truncated (judged e (layoutOf e b) (sizesOf (layoutOf e b))) s a in
+    let (e2, f2) = pass (oversize (sizesOf (layoutOf e b))) TooLarge _ s f1 in
+    let (e3, f3) = pass (wrongLength (layoutOf e b) (sizesOf (layoutOf e b))) WrongLength _ s f2 in
+    let (e4, f4) = pass (badKind e (layoutOf e b) (sizesOf (layoutOf e b))) BadKind _ s f3 in
+    let (e5, f5) = pass (outOfRange (layoutOf e b) (sizesOf (layoutOf e b))) OutOfRange _ s f4 in
+    let (e6, f6) = pass (disorder (layoutOf e b) (sizesOf (layoutOf e b))) Unsorted _ s f5 in
+    let (e7, f7) = pass (cycle (layoutOf e b) (sizesOf (layoutOf e b))) Cyclic (Accepted (sizesOf (layoutOf e b))) s f6 in
+    let r : sizesOf (layoutOf e b) ≡ s = accepted-one f7 in
     record {
-      long = ltb-false _ _ e1;
+      whole = e1;
       read = r;
       limits = subst (λ z. oversize z ≡ false) r e2;
-      whole = subst (λ z. wrongLength b z ≡ false) r e3;
-      kinds = subst (λ z. badKind b z ≡ false) r e4;
-      ranges = subst (λ z. outOfRange b z ≡ false) r e5;
-      sorted = subst (λ z. disorder b z ≡ false) r e6;
-      acyclic = subst (λ z. cycle b z ≡ false) r e7;
+      length = subst (λ z. wrongLength (layoutOf e b) z ≡ false) r e3;
+      kinds = subst (λ z. badKind e (layoutOf e b) z ≡ false) r e4;
+      ranges = subst (λ z. outOfRange (layoutOf e b) z ≡ false) r e5;
+      sorted = subst (λ z. disorder (layoutOf e b) z ≡ false) r e6;
+      acyclic = subst (λ z. cycle (layoutOf e b) z ≡ false) r e7;
     }
 
 -- a disjunction that fails fails on both sides
 pub or-fails : (x y : Bool) → x or y ≡ false → (x ≡ false) × (y ≡ false)
 or-fails x y e = (false-of x (λ t. of-false _ e (or-left x y t)), false-of y (λ t. of-false _ e (or-right x y t)))
+
+-- a file that is not truncated has its first byte, and five sizes in its layout
+module _ (e : Edition) (b : List ℕ) (h : truncated e b ≡ false) where
+  pub marked : unmarked e b ≡ false
+  unfolding truncated
+  marked = or-fails _ _ h .0
+
+  pub long-layout : ltb (length (layoutOf e b)) 10 ≡ false
+  unfolding truncated
+  long-layout = or-fails _ _ h .1
+
+pub facts-zero : (e : Edition) (b : List ℕ) (s : Sizes) → badKind e b s ≡ false → badFact b s ≡ false
+unfolding badKind
+facts-zero e b s k = or-fails _ _ k .0
+
+-- the layout of an accepted table is legal
+pub legal : (e : Edition) (b : List ℕ) (s : Sizes) → judgementOf e b ≡ Accepted s → Legal (layoutOf e b) s
+legal e b s a =
+    let p = passed e b s a in
+    record {
+      read = p .read;
+      limits = p .limits;
+      whole = p .length;
+      facts = facts-zero e _ s (p .kinds);
+      ranges = p .ranges;
+      sorted = p .sorted;
+      acyclic = p .acyclic;
+    }
+
+-- as it was taken from a table that was judged
+pub legal-read : (e : Edition) (b : List ℕ) (s : Sizes) {j : Judgement} {l : List ℕ} → j ≡ judgementOf e b → j ≡ Accepted s → l ≡ layoutOf e b → Legal l s
+legal-read e b s f g h = subst (λ l. Legal l s) (sym h) (legal e b s (sym f ∙ g))
+
+-- and one without a fault is accepted
+pub accepted : (e : Edition) (b : List ℕ) (s : Sizes) → Passed e b s → judgementOf e b ≡ Accepted s
+unfolding judgementOf judged
+accepted e b s p =
+    simp (p .whole, p .read, p .limits, p .length, p .kinds, p .ranges, p .sorted, p .acyclic)
+
+-- what it says, with the sizes that it was judged by
+pub theory-read : (e : Edition) (b : List ℕ) (s : Sizes) → judgementOf e b ≡ Accepted s → theoryIn (layoutOf e b) s ≡ theoryOf e b
+theory-read e b s a = ap (theoryIn (layoutOf e b)) (sym (legal e b s a .read))
 
 -- the sizes are within their limits
 pub record Limited (s : Sizes) : Type 0 where
@@ -134,6 +186,15 @@ left-in b from n i h = simp (lt-ltb i n h)
 pub right-in : (b : List ℕ) (s : Sizes) (from n i : ℕ) → i < n → rightIn b s from n i ≡ right b s (from + i)
 unfolding rightIn
 right-in b s from n i h = simp (lt-ltb i n h)
+
+-- and past its end
+pub left-past : (b : List ℕ) (from n i : ℕ) → n ≤ i → leftIn b from n i ≡ 0
+unfolding leftIn
+left-past b from n i h = simp (le-ltb i n h)
+
+pub right-past : (b : List ℕ) (s : Sizes) (from n i : ℕ) → n ≤ i → rightIn b s from n i ≡ 0
+unfolding rightIn
+right-past b s from n i h = simp (le-ltb i n h)
 
 -- where no number will do there is none to ask of
 nothing : (n : ℕ) (f : ℕ → ℕ) → ((i : ℕ) → i < n → f i < 0) → n ≡ 0

@@ -1,3 +1,4 @@
+pub mod Editions
 pub mod Reading
 pub mod Sections
 pub mod Joined

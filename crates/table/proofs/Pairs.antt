@@ -15,12 +15,11 @@ use Rattle.logic.proofs.Tests.{false-of, some-elim}
 use Rattle.logic.proofs.Cycle.{cycle-next, cyclic-sound}
 use Rattle.table.specs.declared.format.Sizes.{Sizes}
 use Rattle.table.specs.declared.format.Pair.{Pair}
-use Rattle.table.specs.declared.judge.Judgement.the-variants.{Accepted}
 use Rattle.table.specs.Format.{pairAt, theoryIn}
-use Rattle.table.specs.Refusals.{oversize, outOfRange, disorder, cycle, judgementOf}
+use Rattle.table.specs.Refusals.{oversize, outOfRange, disorder, cycle, Legal}
 use Rattle.table.specs.Pairs.{PairsInOrder}
 use Rattle.table.specs.Release.{removedBy, Zeros, Queued}
-use Rattle.table.proofs.Legal.{legal, limited, ranged, stronger-below, weaker-below}
+use Rattle.table.proofs.Legal.{limited, ranged, stronger-below, weaker-below}
 use Rattle.table.proofs.Sorted.{before-left, pairs-rise}
 use Rattle.table.proofs.Kahn.{queued-start, queued-end}
 
@@ -36,9 +35,9 @@ module _ (b : List ℕ) (s : Sizes) where
         rising = λ i j l h. ⊎-elim (λ k. le-of-eq (ap (λ n. pairAt b s n .stronger) k)) (λ k. before-left _ _ _ _ (pairs-rise b s g i j k h)) (eq-or-lt-of-le l);
       }
 
-  -- of an accepted table
-  pub pairs-in-order : judgementOf b ≡ Accepted s → PairsInOrder (theoryIn b s)
-  pairs-in-order a = let l = legal b s a in ordered (l .limits) (l .ranges) (l .sorted)
+  -- of a legal layout
+  pub pairs-in-order : Legal b s → PairsInOrder (theoryIn b s)
+  pairs-in-order l = ordered (l .limits) (l .ranges) (l .sorted)
 
   -- a pair that was read
   pub strong-read : (i : ℕ) (p : Pair) → p ≡ pairAt b s i → p .stronger ≡ theoryIn b s .pair i .stronger

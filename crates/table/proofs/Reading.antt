@@ -11,13 +11,21 @@ use lib.Dec.{leb, ltb, lt→ltb}
 use Rattle.logic.proofs.Tests.{cond-true}
 use Rattle.table.specs.declared.format.Sizes.{Sizes}
 use Rattle.table.specs.declared.format.Kind.the-variants.{Defeater}
-use Rattle.table.specs.Format.{word, spanOf, right, rightIn, kindOf}
+use Rattle.table.specs.declared.format.Origin.the-variants.{Console}
+use Rattle.table.specs.Format.{word, spanOf, right, rightIn, kindOf, originOf}
 
 pub kind-rest : (n : ℕ) → (n ≡ 0 → ⊥) → (n ≡ 1 → ⊥) → Defeater ≡ kindOf n
 unfolding kindOf
 kind-rest zero a b = absurd (a refl)
 kind-rest (suc zero) a b = absurd (b refl)
 kind-rest (suc (suc n)) a b = refl
+
+pub origin-rest : (n : ℕ) → (n ≡ 0 → ⊥) → (n ≡ 1 → ⊥) → (n ≡ 2 → ⊥) → Console ≡ originOf n
+unfolding originOf
+origin-rest zero a b d = absurd (a refl)
+origin-rest (suc zero) a b d = absurd (b refl)
+origin-rest (suc (suc zero)) a b d = absurd (d refl)
+origin-rest (suc (suc (suc n))) a b d = refl
 
 -- a word of the right array, read past a span that is the sizes'
 pub right-at : (b : List ℕ) (s : Sizes) (j span r : ℕ) → span ≡ spanOf s → r ≡ word b (5 + span + j) → r ≡ right b s j

@@ -12,7 +12,7 @@ use Rattle.logic.specs.Tests.{_and_, _or_, every}
 use Rattle.logic.proofs.Tests.{of-false, cond-false, at-most, eq→eqb, and-intro, and-left, and-right, or-left, or-right, or-elim, some-intro, isnt-intro, isnt-elim, every-intro, every-elim, some-found, some-none}
 use Rattle.table.specs.declared.format.Sizes.{Sizes}
 use Rattle.table.specs.Format.{word, spanOf, left, factsFrom, entriesFrom, pairsFrom}
-use Rattle.table.specs.Refusals.{badKind, sectionFrom, sectionSize, leftFrom, sectionLeft, sectionRight, rises, disorder}
+use Rattle.table.specs.Refusals.{badFact, sectionFrom, sectionSize, leftFrom, sectionLeft, sectionRight, rises, disorder}
 use Rattle.table.specs.Keys.{Key}
 
 assoc : (a j : ℕ) → 5 + a + j ≡ 5 + (a + j)
@@ -43,10 +43,10 @@ module _ (l m p q : ℕ) {x y : ℕ} (e : x ≡ 65536 * l + p) (f : y ≡ 65536 
       (λ i. let k : l ≡ m = eqb→eq l m (and-left _ _ i) in let j : p < q = ltb→lt p q (and-right _ _ i) in lt-irrefl x (omega arith)) (or-elim _ _ t)
 
 -- the left word of an entry by which it is ordered: once kinds are ruled out, a fact's is 0
-module _ (b : List ℕ) (s : Sizes) (kinds : badKind b s ≡ false) where
-  fact-left : (i : ℕ) → i < s .facts → left b (factsFrom s + i) ≡ 0
-  unfolding badKind
-  fact-left i h = zero-of _ (λ k. of-false _ kinds (or-left _ _ (some-intro (s .facts) _ i h (le→leb 1 _ k))))
+module _ (b : List ℕ) (s : Sizes) (zeros : badFact b s ≡ false) where
+  pub fact-left : (i : ℕ) → i < s .facts → left b (factsFrom s + i) ≡ 0
+  unfolding badFact
+  fact-left i h = zero-of _ (λ k. of-false _ zeros (some-intro (s .facts) _ i h (le→leb 1 _ k)))
     where
       zero-of : (n : ℕ) → (1 ≤ n → ⊥) → n ≡ 0
       zero-of zero f = refl
@@ -113,17 +113,17 @@ section-inside s (suc zero) = omega arith
 section-inside s (suc (suc k)) = omega arith
 
 -- the next entry of a section, by its key and the one before
-module _ (b : List ℕ) (s : Sizes) (kinds : badKind b s ≡ false) (k from span : ℕ) (f : from ≡ sectionFrom s k) (g : span ≡ spanOf s) where
+module _ (b : List ℕ) (s : Sizes) (zeros : badFact b s ≡ false) (k from span : ℕ) (f : from ≡ sectionFrom s k) (g : span ≡ spanOf s) where
   pub key-on : (i : ℕ) {x : ℕ} → Key b (5 + from) (5 + from + span) i x → Key b (5 + from) (5 + from + span) (i + 1 - 1) x
   key-on i {x} q = let e : i ≡ i + 1 - 1 = omega arith in subst (λ z. Key b (5 + from) (5 + from + span) z x) e q
 
   module _ (m : ℕ) (h : m + 1 < sectionSize s k) {x y : ℕ} (p : Key b (5 + from) (5 + from + span) m x) (q : Key b (5 + from) (5 + from + span) (m + 1) y) where
     pub rises-on : x < y → ((j : ℕ) → j + 1 < m + 1 → T (rises b s k j)) → (j : ℕ) → j + 1 < m + 1 + 1 → T (rises b s k j)
     rises-on l c j d =
-        ⊎-elim (λ u. let e : m ≡ j = omega arith in subst (λ z. T (rises b s k z)) e (keys-rise b s kinds k m from span f g h p q l)) (c j) (at-most (m + 1) (j + 1))
+        ⊎-elim (λ u. let e : m ≡ j = omega arith in subst (λ z. T (rises b s k z)) e (keys-rise b s zeros k m from span f g h p q l)) (c j) (at-most (m + 1) (j + 1))
 
     pub falls-at : k < 3 → y ≤ x → true ≡ disorder b s
-    falls-at t l = disorder-at b s k m t (omega arith) (keys-fall b s kinds k m from span f g h p q l)
+    falls-at t l = disorder-at b s k m t (omega arith) (keys-fall b s zeros k m from span f g h p q l)
 
   module _ (i : ℕ) (one : 1 ≤ i) (h : i < sectionSize s k) {x y : ℕ} (p : Key b (5 + from) (5 + from + span) (i - 1) x) (q : Key b (5 + from) (5 + from + span) i y) where
     same : i - 1 + 1 ≡ i

@@ -1,5 +1,5 @@
 -- The ordered sections of an accepted table rise from any place to any later one. Assumes nothing.
-use Prim.Native.Nat.{ℕ, zero, suc, _+_, _-_, _≤_, _<_}
+use Prim.Native.Nat.{ℕ, zero, suc, _+_, _-_, _*_, _≤_, _<_}
 use native.Mathlib.Nat.{lt-trans, lt-irrefl, le-of-lt, le-of-eq, eq-or-lt-of-le, not-suc-le-zero}
 use native.Mathlib.Numerals.{add-one}
 use native.Mathlib.Omega.{arith}
@@ -13,10 +13,9 @@ use Rattle.logic.specs.Theory.{bodyOf}
 use Rattle.logic.proofs.Tests.{test-cases, of-false, isnt-intro, and-left, and-right, or-elim, every-elim, some-intro, lt-suc-cases, at-most}
 use Rattle.logic.proofs.Lists.{member-pick, member-upto, distinct-map, distinct-pick, distinct-upto}
 use Rattle.table.specs.declared.format.Sizes.{Sizes}
-use Rattle.table.specs.declared.judge.Judgement.the-variants.{Accepted}
-use Rattle.table.specs.Format.{left, right, entriesFrom, pairsFrom, leftIn, rightIn, entryAt, pairAt, bodyIn, theoryIn}
-use Rattle.table.specs.Refusals.{sectionFrom, sectionSize, leftFrom, sectionLeft, sectionRight, rises, disorder, judgementOf}
-use Rattle.table.proofs.Legal.{legal, left-in, right-in}
+use Rattle.table.specs.Format.{left, right, factsFrom, entriesFrom, pairsFrom, leftIn, rightIn, factAt, entryAt, pairAt, bodyIn, theoryIn}
+use Rattle.table.specs.Refusals.{sectionFrom, sectionSize, leftFrom, sectionLeft, sectionRight, rises, disorder, Legal}
+use Rattle.table.proofs.Legal.{left-in, right-in}
 
 -- in the order by left, then right
 pub Before : ℕ → ℕ → ℕ → ℕ → Type 0
@@ -39,6 +38,12 @@ pub before-right : (l r m q : ℕ) → l ≡ m → Before l r m q → r < q
 unfolding Before
 before-right l r m q e (inl a) = absurd (lt-irrefl m (subst (λ z. z < m) e a))
 before-right l r m q e (inr a) = a .1
+
+-- as one number
+pub before-key : (l r m q : ℕ) → r < 65536 → Before l r m q → 65536 * l + r < 65536 * m + q
+unfolding Before
+before-key l r m q h (inl a) = omega arith
+before-key l r m q h (inr a) = omega (arith, a .0, a .1)
 
 before-same : {l l′ r r′ m m′ q q′ : ℕ} → l ≡ l′ → r ≡ r′ → m ≡ m′ → q ≡ q′ → Before l r m q → Before l′ r′ m′ q′
 before-same e f g h t = coe 0 1 (i. Before (e i) (f i) (g i) (h i)) t
@@ -76,6 +81,12 @@ module _ (b : List ℕ) (s : Sizes) (e : disorder b s ≡ false) where
       rights : (c : ℕ) → c < n → sectionRight b s k c ≡ rightIn b s from n c
       rights c v = ap (λ o. right b s (o + c)) f ∙ sym (right-in b s from n c v)
 
+  pub facts-rise : (i j : ℕ) → i < j → j < s .facts → factAt b s i .0 < factAt b s j .0
+  unfolding At sectionFrom sectionSize leftFrom
+  facts-rise i j l m =
+      subst (λ z. z < factAt b s j .0) (sym (right-in b s (factsFrom s) (s .facts) i (lt-trans l m)))
+      (subst (λ z. right b s (factsFrom s + i) < z) (sym (right-in b s (factsFrom s) (s .facts) j m)) (before-right _ _ _ _ refl (far 0 i j (omega arith) l m)))
+
   pub entries-rise : (i j : ℕ) → i < j → j < s .entries
       → Before (entryAt b s i .rule) (entryAt b s i .literal .0) (entryAt b s j .rule) (entryAt b s j .literal .0)
   unfolding sectionFrom sectionSize
@@ -85,17 +96,17 @@ module _ (b : List ℕ) (s : Sizes) (e : disorder b s ≡ false) where
   unfolding sectionFrom sectionSize
   pairs-rise = rise-in 2 (pairsFrom s) (s .pairs) (omega arith) refl refl refl
 
--- Of an accepted table: the entries of one rule rise by literal, and those with one literal by rule.
-module _ (b : List ℕ) (s : Sizes) (accepted : judgementOf b ≡ Accepted s) (i j : ℕ) (h : i < j) (l : j < s .entries) where
+-- Of a legal layout: the entries of one rule rise by literal, and those with one literal by rule.
+module _ (b : List ℕ) (s : Sizes) (l : Legal b s) (i j : ℕ) (h : i < j) (k : j < s .entries) where
   pub literals-rise : entryAt b s i .rule ≡ entryAt b s j .rule → entryAt b s i .literal .0 < entryAt b s j .literal .0
-  literals-rise e = before-right _ _ _ _ e (entries-rise b s (legal b s accepted .sorted) i j h l)
+  literals-rise e = before-right _ _ _ _ e (entries-rise b s (l .sorted) i j h k)
 
   pub rules-rise : entryAt b s i .literal .0 ≡ entryAt b s j .literal .0 → entryAt b s i .rule < entryAt b s j .rule
   unfolding Before
-  rules-rise e = ⊎-elim (λ a. a) (λ a. absurd (lt-irrefl _ (subst (λ z. z < entryAt b s j .literal .0) e (a .1)))) (entries-rise b s (legal b s accepted .sorted) i j h l)
+  rules-rise e = ⊎-elim (λ a. a) (λ a. absurd (lt-irrefl _ (subst (λ z. z < entryAt b s j .literal .0) e (a .1)))) (entries-rise b s (l .sorted) i j h k)
 
 -- the bodies of an accepted table have no literal twice
-pub bodies-apart : (b : List ℕ) (s : Sizes) → judgementOf b ≡ Accepted s → (r : ℕ) → T (distinct (bodyOf (theoryIn b s) r))
+pub bodies-apart : (b : List ℕ) (s : Sizes) → Legal b s → (r : ℕ) → T (distinct (bodyOf (theoryIn b s) r))
 unfolding theoryIn bodyIn
 bodies-apart b s accepted r =
     distinct-map (λ i. entryAt b s i .literal .0) (pick (upto (s .entries)) (λ i. eqb (entryAt b s i .rule) r)) (distinct-pick (upto (s .entries)) _ (distinct-upto (s .entries))) one

@@ -10,6 +10,8 @@ use Rattle.logic.specs.Tests.{countBelow, upto}
 use Rattle.table.specs.declared.format.Sizes.{Sizes}
 use Rattle.table.specs.declared.judge.Judgement.{Judgement}
 use Rattle.table.specs.declared.judge.Judgement.the-variants.{Accepted, Refused}
+use Rattle.table.specs.declared.edition.Edition.{Edition}
+use Rattle.table.specs.Editions.{layoutOf}
 use Rattle.table.specs.Format.{word, spanOf, entriesFrom, entryAt, bodyIn}
 use Rattle.table.specs.Refusals.{judgementOf}
 
@@ -38,6 +40,7 @@ bodyLiterals b (Refused n) r = []
 abbrev pub wordsOf : List ℕ → List ℕ
 wordsOf l = map (word l) (upto (length l / 2))
 
-pub record Body (b : List ℕ) (r : ℕ) (l : List ℕ) : Type 0 where
-  pub bytes : l ≡ bodyBytes b (judgementOf b) r
-  pub literals : wordsOf l ≡ bodyLiterals b (judgementOf b) r
+-- In edition two they are bytes of the file all the same: its layout is the bytes after the first.
+pub record Body (e : Edition) (b : List ℕ) (r : ℕ) (l : List ℕ) : Type 0 where
+  pub bytes : l ≡ bodyBytes (layoutOf e b) (judgementOf e b) r
+  pub literals : wordsOf l ≡ bodyLiterals (layoutOf e b) (judgementOf e b) r

@@ -1,5 +1,5 @@
--- Document 01, The table: what stands where in a file.
-use Prim.Native.Nat.{ℕ, zero, suc, _+_, _*_, _/_}
+-- Document 01, The table, and document 02, S-5: what stands where in the layout of a file (Editions.antt), and what a file says.
+use Prim.Native.Nat.{ℕ, zero, suc, _+_, _*_, _/_, _%_}
 use mathlib.Core.Bool.{cond}
 use mathlib.Core.List.{List, map}
 use lib.Dec.{ltb, eqb}
@@ -9,12 +9,16 @@ use Rattle.logic.specs.Theory as theory
 use Rattle.table.specs.declared.format.Sizes.{Sizes}
 use Rattle.table.specs.declared.format.Kind.{Kind}
 use Rattle.table.specs.declared.format.Kind.the-variants.{Strict, Defeasible, Defeater}
+use Rattle.table.specs.declared.format.Origin.{Origin}
+use Rattle.table.specs.declared.format.Origin.the-variants.{None, House, Tour, Console}
 use Rattle.table.specs.declared.format.Literal.{Literal}
 use Rattle.table.specs.declared.format.Rule.{Rule}
 use Rattle.table.specs.declared.format.Pair.{Pair}
 use Rattle.table.specs.declared.format.Entry.{Entry}
+use Rattle.table.specs.declared.edition.Edition.{Edition}
+use Rattle.table.specs.Editions.{layoutOf}
 
--- "16-bit little-endian words": the i-th of a file, 0 past its end
+-- "16-bit little-endian words": the i-th of a layout, 0 past its end
 unfoldable pub word : List ℕ → ℕ → ℕ
 word b i = cond (ltb i (length b / 2)) (getD b (2 * i) 0 + 256 * getD b (2 * i + 1) 0) 0
 
@@ -57,16 +61,31 @@ rightIn b s from n i = cond (ltb i n) (right b s (from + i)) 0
 abbrev pub factAt : List ℕ → Sizes → ℕ → Literal
 factAt b s i = record { 0 = rightIn b s (factsFrom s) (s .facts) i }
 
--- "N rules, numbered from 0: left the kind, right the head."
+-- "N rules, numbered from 0: left the kind, right the head." In edition two "a rule's left word is kind + 4 × origin", and in the old
+-- layout, where it is at most 2, its remainder by 4 is the kind too.
 unfoldable pub kindOf : ℕ → Kind
 kindOf zero = Strict
 kindOf (suc zero) = Defeasible
 kindOf (suc (suc n)) = Defeater
 
+-- "0 none, 1 house, 2 tour, 3 console"
+abbrev pub originNumber : Origin → ℕ
+originNumber None = 0
+originNumber House = 1
+originNumber Tour = 2
+originNumber Console = 3
+
+unfoldable pub originOf : ℕ → Origin
+originOf zero = None
+originOf (suc zero) = House
+originOf (suc (suc zero)) = Tour
+originOf (suc (suc (suc n))) = Console
+
 abbrev pub ruleAt : List ℕ → Sizes → ℕ → Rule
 ruleAt b s r =
     record {
-      kind = kindOf (leftIn b (rulesFrom s) (s .rules) r);
+      kind = kindOf (leftIn b (rulesFrom s) (s .rules) r % 4);
+      origin = originOf (leftIn b (rulesFrom s) (s .rules) r / 4);
       head = record { 0 = rightIn b s (rulesFrom s) (s .rules) r };
     }
 
@@ -107,5 +126,9 @@ theoryIn b s =
       pair = λ i. record { stronger = pairAt b s i .stronger; weaker = pairAt b s i .weaker };
     }
 
-abbrev pub theoryOf : List ℕ → theory.Theory
-theoryOf b = theoryIn b (sizesOf b)
+abbrev pub theoryOf : Edition → List ℕ → theory.Theory
+theoryOf e b = theoryIn (layoutOf e b) (sizesOf (layoutOf e b))
+
+-- What it says besides: the origins of its rules.
+abbrev pub originAt : Edition → List ℕ → ℕ → Origin
+originAt e b r = ruleAt (layoutOf e b) (sizesOf (layoutOf e b)) r .origin

@@ -1,3 +1,4 @@
+pub mod Editions
 pub mod Format
 pub mod Refusals
 pub mod Bodies

@@ -1,7 +1,7 @@
--- Document 01, What the console turns away: each fault as a test, and the lowest that applies.
-use Prim.Native.Nat.{ℕ, zero, suc, _+_, _-_, _*_}
+-- Document 01, What the console turns away, with document 02, S-5: each fault as a test, and the lowest that applies.
+use Prim.Native.Nat.{ℕ, zero, suc, _+_, _-_, _*_, _/_, _%_}
 use mathlib.Core.Path.{_≡_}
-use mathlib.Core.Bool.{Bool, cond}
+use mathlib.Core.Bool.{Bool, false, cond}
 use mathlib.Core.List.{List, [], _∷_}
 use lib.Dec.{ltb, leb, eqb}
 use lib.ListN.{length}
@@ -10,9 +10,12 @@ use Rattle.logic.specs.Theory.{superior}
 use Rattle.logic.specs.Cycle.{cyclic}
 use Rattle.table.specs.declared.format.Sizes.{Sizes}
 use Rattle.table.specs.declared.judge.Refusal.{Refusal}
-use Rattle.table.specs.declared.judge.Refusal.the-variants.{Truncated, TooLarge, WrongLength, BadKind, OutOfRange, Unsorted, Cyclic, ShortScratch, ShortLog}
+use Rattle.table.specs.declared.judge.Refusal.the-variants.{Truncated, TooLarge, WrongLength, BadKind, OutOfRange, Unsorted, Cyclic, ShortScratch, ShortLog, HasOrigin}
 use Rattle.table.specs.declared.judge.Judgement.{Judgement}
 use Rattle.table.specs.declared.judge.Judgement.the-variants.{Accepted, Refused}
+use Rattle.table.specs.declared.edition.Edition.{Edition}
+use Rattle.table.specs.declared.edition.Edition.the-variants.{Old, Two}
+use Rattle.table.specs.Editions.{layoutOf, unmarked}
 use Rattle.table.specs.Format.{sizesOf, spanOf, left, right, factsFrom, rulesFrom, entriesFrom, pairsFrom, theoryIn}
 
 -- The number of each refusal.
@@ -26,6 +29,11 @@ numberOf Unsorted = 6
 numberOf Cyclic = 7
 numberOf ShortScratch = 8
 numberOf ShortLog = 9
+numberOf HasOrigin = 10
+
+-- 1: "fewer than 10 bytes"; for edition two "judged on the bytes after the first", and "A first byte other than 2, or no byte, is 1."
+unfoldable pub truncated : Edition → List ℕ → Bool
+truncated e b = unmarked e b or ltb (length (layoutOf e b)) 10
 
 -- 2: "At most A 512, F 1,024, N 1,024, B 4,096, P 2,048."
 unfoldable pub oversize : Sizes → Bool
@@ -39,9 +47,19 @@ wrongLength b s = isnt (eqb (length b) (10 + 4 * spanOf s))
 abbrev pub someAtLeast : ℕ → ℕ → (ℕ → ℕ) → Bool
 someAtLeast n limit f = some n (λ i. leb limit (f i))
 
--- 4: "a fact's left not 0, or a rule's left above 2"
-unfoldable pub badKind : List ℕ → Sizes → Bool
-badKind b s = someAtLeast (s .facts) 1 (λ i. left b (factsFrom s + i)) or someAtLeast (s .rules) 3 (λ r. left b (rulesFrom s + r))
+-- 4: "a fact's left not 0, or a rule's left above 2"; for edition two "with kind read as the remainder by 4", and "An origin above 3 is 4."
+unfoldable pub badFact : List ℕ → Sizes → Bool
+badFact b s = someAtLeast (s .facts) 1 (λ i. left b (factsFrom s + i))
+
+unfoldable pub badLeft : Edition → ℕ → Bool
+badLeft Old w = ltb 2 w
+badLeft Two w = ltb 2 (w % 4) or ltb 3 (w / 4)
+
+unfoldable pub badRule : Edition → List ℕ → Sizes → Bool
+badRule e b s = some (s .rules) (λ r. badLeft e (left b (rulesFrom s + r)))
+
+unfoldable pub badKind : Edition → List ℕ → Sizes → Bool
+badKind e b s = badFact b s or badRule e b s
 
 -- 5: "a literal not below 2A, or a rule number not below N": facts, heads; an entry's rule and literal; a pair's two rules
 unfoldable pub outOfRange : List ℕ → Sizes → Bool
@@ -85,18 +103,17 @@ disorder b s = some 3 (λ k. isnt (every (sectionSize s k - 1) (rises b s k)))
 unfoldable pub cycle : List ℕ → Sizes → Bool
 cycle b s = cyclic (superior (theoryIn b s)) (s .rules)
 
--- "The lowest number that applies anywhere in the table is given.": by the sizes that were read, then from the first byte on.
--- 1: "fewer than 10 bytes"
-unfoldable pub judged : List ℕ → Sizes → Judgement
-judged b s =
+-- "The lowest number that applies anywhere in the table is given.": by the layout and the sizes that were read, then from the first byte on.
+unfoldable pub judged : Edition → List ℕ → Sizes → Judgement
+judged e b s =
     cond (oversize s) (Refused TooLarge)
     (cond (wrongLength b s) (Refused WrongLength)
-    (cond (badKind b s) (Refused BadKind)
+    (cond (badKind e b s) (Refused BadKind)
     (cond (outOfRange b s) (Refused OutOfRange)
     (cond (disorder b s) (Refused Unsorted) (cond (cycle b s) (Refused Cyclic) (Accepted s))))))
 
-unfoldable pub judgementOf : List ℕ → Judgement
-judgementOf b = cond (ltb (length b) 10) (Refused Truncated) (judged b (sizesOf b))
+unfoldable pub judgementOf : Edition → List ℕ → Judgement
+judgementOf e b = cond (truncated e b) (Refused Truncated) (judged e (layoutOf e b) (sizesOf (layoutOf e b)))
 
 -- The paper's number of each judgement: 0 where the table is accepted. (The values of one that is accepted are the sizes in it.)
 unfoldable pub refusedBy : Judgement → ℕ
@@ -104,8 +121,11 @@ refusedBy (Accepted s) = 0
 refusedBy (Refused n) = numberOf n
 
 -- the paper's list of faults, 1 to 7, in its order
-abbrev pub faults : List ℕ → Sizes → List Bool
-faults b s = ltb (length b) 10 ∷ oversize s ∷ wrongLength b s ∷ badKind b s ∷ outOfRange b s ∷ disorder b s ∷ cycle b s ∷ []
+abbrev pub faultsIn : Edition → List ℕ → Sizes → List Bool
+faultsIn e b s = oversize s ∷ wrongLength b s ∷ badKind e b s ∷ outOfRange b s ∷ disorder b s ∷ cycle b s ∷ []
+
+abbrev pub faults : Edition → List ℕ → List Bool
+faults e b = truncated e b ∷ faultsIn e (layoutOf e b) (sizesOf (layoutOf e b))
 
 -- the number of the first fault of a list that applies, where n is the number of its first; 0 if none applies
 unfoldable pub firstFrom : ℕ → List Bool → ℕ
@@ -113,6 +133,16 @@ firstFrom n [] = 0
 firstFrom n (f ∷ fs) = cond f n (firstFrom (n + 1) fs)
 
 -- What `judge` hands over: the judgement, and "The lowest number that applies anywhere in the table".
-pub record Judged (b : List ℕ) (j : Judgement) : Type 0 where
-  pub judgement : j ≡ judgementOf b
-  pub number : refusedBy j ≡ firstFrom 1 (faults b (sizesOf b))
+pub record Judged (e : Edition) (b : List ℕ) (j : Judgement) : Type 0 where
+  pub judgement : j ≡ judgementOf e b
+  pub number : refusedBy j ≡ firstFrom 1 (faults e b)
+
+-- What is left past the judgement: no fault applies to the layout, of whatever edition it is (proofs/Legal.antt: `legal`).
+pub record Legal (b : List ℕ) (s : Sizes) : Type 0 where
+  pub read : sizesOf b ≡ s
+  pub limits : oversize s ≡ false
+  pub whole : wrongLength b s ≡ false
+  pub facts : badFact b s ≡ false
+  pub ranges : outOfRange b s ≡ false
+  pub sorted : disorder b s ≡ false
+  pub acyclic : cycle b s ≡ false

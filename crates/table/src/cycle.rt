@@ -15,14 +15,14 @@ use crate::format::pair_within;
 use values::wide;
 
 // How many pairs name each rule as the weaker.
-fn count_stronger(table: &[u8], s: Sizes, degree: &mut [u16])
-    requires { ⌜ PairsInOrder (theoryIn (now table) s) × (length (now degree) ≡ 1024) × (length (now table) ≡ 10 + 4 * spanOf s) × ((w : ℕ) → w < 1024 → getD (now degree) w 0 ≡ 0) ⌝ }
-    ensures { λ _. ⌜ ((w : ℕ) → w < 1024 → getD (now (degree .exit)) w 0 ≡ countBelow (s .pairs) (λ i. eqb (pairAt (now (table .entry)) s i .weaker) w)) ⌝ }
+fn count_stronger(layout: &[u8], s: Sizes, degree: &mut [u16])
+    requires { ⌜ PairsInOrder (theoryIn (now layout) s) × (length (now degree) ≡ 1024) × (length (now layout) ≡ 10 + 4 * spanOf s) × ((w : ℕ) → w < 1024 → getD (now degree) w 0 ≡ 0) ⌝ }
+    ensures { λ _. ⌜ ((w : ℕ) → w < 1024 → getD (now (degree .exit)) w 0 ≡ countBelow (s .pairs) (λ i. eqb (pairAt (now (layout .entry)) s i .weaker) w)) ⌝ }
 {
     let n = s.pairs as usize;
     let mut i: usize = 0;
     while i < n {
-        let p = pair_within(table, s, i);
+        let p = pair_within(layout, s, i);
         let w = p.weaker as usize;
         degree[w] += 1;
         i += 1;
@@ -30,14 +30,14 @@ fn count_stronger(table: &[u8], s: Sizes, degree: &mut [u16])
 }
 
 // Where the pairs of each stronger rule begin.
-fn find_runs(table: &[u8], s: Sizes, first: &mut [u16])
-    requires { ⌜ PairsInOrder (theoryIn (now table) s) × (length (now first) ≡ 1024) × (length (now table) ≡ 10 + 4 * spanOf s) ⌝ }
-    ensures { λ _. ⌜ Runs (theoryIn (now (table .entry)) s) (now (first .exit)) ⌝ }
+fn find_runs(layout: &[u8], s: Sizes, first: &mut [u16])
+    requires { ⌜ PairsInOrder (theoryIn (now layout) s) × (length (now first) ≡ 1024) × (length (now layout) ≡ 10 + 4 * spanOf s) ⌝ }
+    ensures { λ _. ⌜ Runs (theoryIn (now (layout .entry)) s) (now (first .exit)) ⌝ }
 {
     let mut i: u16 = s.pairs;
     while 0 < i {
         i -= 1;
-        let p = pair_within(table, s, i as usize);
+        let p = pair_within(layout, s, i as usize);
         let r = p.stronger as usize;
         first[r] = i;
     }
@@ -82,7 +82,7 @@ fn lower(w: u16, degree: &mut [u16], queue: &mut [u16], end: usize) -> usize
 
 // The next rule of the queue is taken up: each pair in which it is the stronger counts no more.
 fn release(
-    table: &[u8],
+    layout: &[u8],
     s: Sizes,
     first: &[u16],
     degree: &mut [u16],
@@ -90,16 +90,16 @@ fn release(
     next: usize,
     end: usize,
 ) -> usize
-    requires { ⌜ PairsInOrder (theoryIn (now table) s) × Runs (theoryIn (now table) s) (now first) × Reached (theoryIn (now table) s) next end (now degree) (now queue) ⌝ }
-    requires { ⌜ (length (now first) ≡ 1024) × (length (now degree) ≡ 1024) × (length (now queue) ≡ 1024) × (next < end) × (end ≤ 1024) × (length (now table) ≡ 10 + 4 * spanOf s) ⌝ }
-    ensures { λ r. ⌜ (next < r) × (r ≤ 1024) × Reached (theoryIn (now (table .entry)) s) (next + 1) r (now (degree .exit)) (now (queue .exit)) ⌝ }
+    requires { ⌜ PairsInOrder (theoryIn (now layout) s) × Runs (theoryIn (now layout) s) (now first) × Reached (theoryIn (now layout) s) next end (now degree) (now queue) ⌝ }
+    requires { ⌜ (length (now first) ≡ 1024) × (length (now degree) ≡ 1024) × (length (now queue) ≡ 1024) × (next < end) × (end ≤ 1024) × (length (now layout) ≡ 10 + 4 * spanOf s) ⌝ }
+    ensures { λ r. ⌜ (next < r) × (r ≤ 1024) × Reached (theoryIn (now (layout .entry)) s) (next + 1) r (now (degree .exit)) (now (queue .exit)) ⌝ }
 {
     let n = s.pairs as usize;
     let r = queue[next];
     let mut last = end;
     let mut i = wide(first[wide(r)]);
     while i < n {
-        let p = pair_within(table, s, i);
+        let p = pair_within(layout, s, i);
         if p.stronger != r {
             return last;
         }
@@ -111,37 +111,37 @@ fn release(
 
 // How many rules are released in all.
 fn released(
-    table: &[u8],
+    layout: &[u8],
     s: Sizes,
     first: &[u16],
     degree: &mut [u16],
     queue: &mut [u16],
     start: usize,
 ) -> usize
-    requires { ⌜ PairsInOrder (theoryIn (now table) s) × Runs (theoryIn (now table) s) (now first) × Reached (theoryIn (now table) s) 0 start (now degree) (now queue) ⌝ }
-    requires { ⌜ (length (now first) ≡ 1024) × (length (now degree) ≡ 1024) × (length (now queue) ≡ 1024) × (start ≤ 1024) × (length (now table) ≡ 10 + 4 * spanOf s) ⌝ }
-    ensures { λ r. ⌜ (r ≤ 1024) × Reached (theoryIn (now (table .entry)) s) r r (now (degree .exit)) (now (queue .exit)) ⌝ }
+    requires { ⌜ PairsInOrder (theoryIn (now layout) s) × Runs (theoryIn (now layout) s) (now first) × Reached (theoryIn (now layout) s) 0 start (now degree) (now queue) ⌝ }
+    requires { ⌜ (length (now first) ≡ 1024) × (length (now degree) ≡ 1024) × (length (now queue) ≡ 1024) × (start ≤ 1024) × (length (now layout) ≡ 10 + 4 * spanOf s) ⌝ }
+    ensures { λ r. ⌜ (r ≤ 1024) × Reached (theoryIn (now (layout .entry)) s) r r (now (degree .exit)) (now (queue .exit)) ⌝ }
 {
     let mut end = start;
     let mut next: usize = 0;
     while next < end {
-        end = release(table, s, first, degree, queue, next, end);
+        end = release(layout, s, first, degree, queue, next, end);
         next += 1;
     }
     end
 }
 
 // 7: the pairs lead from some rule back to itself.
-pub fn has_cycle(table: &[u8], s: Sizes) -> bool
-    requires { ⌜ (oversize s ≡ false) × (outOfRange (now table) s ≡ false) × (disorder (now table) s ≡ false) × (length (now table) ≡ 10 + 4 * spanOf s) ⌝ }
-    ensures { λ r. ⌜ r ≡ cycle (now (table .entry)) s ⌝ }
+pub fn has_cycle(layout: &[u8], s: Sizes) -> bool
+    requires { ⌜ (oversize s ≡ false) × (outOfRange (now layout) s ≡ false) × (disorder (now layout) s ≡ false) × (length (now layout) ≡ 10 + 4 * spanOf s) ⌝ }
+    ensures { λ r. ⌜ r ≡ cycle (now (layout .entry)) s ⌝ }
 {
     let mut degree = [0u16; Sizes::MAX_RULES as usize];
     let mut first = [0u16; Sizes::MAX_RULES as usize];
     let mut queue = [0u16; Sizes::MAX_RULES as usize];
-    count_stronger(table, s, &mut degree);
-    find_runs(table, s, &mut first);
+    count_stronger(layout, s, &mut degree);
+    find_runs(layout, s, &mut first);
     let end = start(s.rules, &degree, &mut queue);
-    let all = released(table, s, &first, &mut degree, &mut queue, end);
+    let all = released(layout, s, &first, &mut degree, &mut queue, end);
     all < s.rules as usize
 }

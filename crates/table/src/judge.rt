@@ -1,7 +1,11 @@
-// Document 01, What the console turns away: the judgement of a table.
+// Document 01, What the console turns away, with document 02, S-5: the judgement of a table.
 ghost use mathlib.Core.Path.{_≡_};
-ghost use Rattle.table.specs.Refusals.{numberOf, Judged};
+ghost use Rattle.table.specs.Format.{sizesOf};
+ghost use Rattle.table.specs.Refusals.{numberOf, judged, Judged};
 use crate::cycle::has_cycle;
+use crate::edition::Edition;
+use crate::edition::is_unmarked;
+use crate::edition::layout;
 use crate::format::Sizes;
 use crate::format::read_sizes;
 use crate::order::unsorted;
@@ -9,7 +13,7 @@ use crate::range::bad_kind;
 use crate::range::out_of_range;
 use values::either;
 
-// The refusals, with document 01's number and word. Numbers 8 and 9 are of the buffers of a run.
+// The refusals, with document 01's number and word, or document 02's number. Numbers 8 and 9 are of the buffers of a call.
 pub enum Refusal {
     // 1, stub
     Truncated,
@@ -27,8 +31,10 @@ pub enum Refusal {
     Cyclic,
     // 8, scratch
     ShortScratch,
-    // 9, log
+    // 9, log; of a converter, the output
     ShortLog,
+    // 10, an origin that the old layout has no place for
+    HasOrigin,
 }
 
 impl Refusal {
@@ -46,6 +52,7 @@ impl Refusal {
             Refusal::Cyclic => 7,
             Refusal::ShortScratch => 8,
             Refusal::ShortLog => 9,
+            Refusal::HasOrigin => 10,
         }
     }
 }
@@ -55,14 +62,11 @@ pub enum Judgement {
     Refused(Refusal),
 }
 
-// The lowest number that applies anywhere in the table, or none.
-pub fn judge(table: &[u8]) -> Judgement
-    ensures { λ r. ⌜ Judged (now (table .entry)) r ⌝ }
+// The judgement of a layout that has the five sizes.
+fn judge_layout(layout: &[u8], edition: Edition) -> Judgement
+    ensures { λ r. ⌜ r ≡ judged edition (now (layout .entry)) (sizesOf (now (layout .entry))) ⌝ }
 {
-    if table.len() < 10 {
-        return Judgement::Refused(Refusal::Truncated);
-    }
-    let s = read_sizes(table);
+    let s = read_sizes(layout);
     // One of the five sizes above its limit, in three tests: past so many the compiler leaves two passes over the words in frames of their
     // own, and the stack of a run, which is the largest in the cycle test, is smaller (docs/DECISIONS.md).
     if Sizes::MAX_ATOMS < s.atoms {
@@ -75,24 +79,38 @@ pub fn judge(table: &[u8]) -> Judgement
         return Judgement::Refused(Refusal::TooLarge);
     }
     let expected = 10 + 4 * s.span();
-    if table.len() != expected {
+    if layout.len() != expected {
         return Judgement::Refused(Refusal::WrongLength);
     }
-    if bad_kind(table, s) {
+    if bad_kind(layout, s, edition) {
         return Judgement::Refused(Refusal::BadKind);
     }
-    if out_of_range(table, s) {
+    if out_of_range(layout, s) {
         return Judgement::Refused(Refusal::OutOfRange);
     }
-    if unsorted(table, s) {
+    if unsorted(layout, s) {
         return Judgement::Refused(Refusal::Unsorted);
     }
     // No pairs, no cycle.
     if s.pairs == 0 {
         return Judgement::Accepted(s);
     }
-    if has_cycle(table, s) {
+    if has_cycle(layout, s) {
         return Judgement::Refused(Refusal::Cyclic);
     }
     Judgement::Accepted(s)
+}
+
+// The lowest number that applies anywhere in the table, or none.
+pub fn judge(table: &[u8], edition: Edition) -> Judgement
+    ensures { λ r. ⌜ Judged edition (now (table .entry)) r ⌝ }
+{
+    if is_unmarked(table, edition) {
+        return Judgement::Refused(Refusal::Truncated);
+    }
+    let l = layout(table, edition);
+    if l.len() < 10 {
+        return Judgement::Refused(Refusal::Truncated);
+    }
+    judge_layout(l, edition)
 }

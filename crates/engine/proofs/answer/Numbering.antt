@@ -6,7 +6,9 @@ use mathlib.Core.Bool.{cond}
 use mathlib.Core.List.{List}
 use lib.Dec.{eqb, eqb→eq}
 use lib.ListN.{length}
+use Rattle.logic.specs.Theory.{Theory}
 use Rattle.table.specs.declared.judge.Refusal.{Refusal}
+use Rattle.table.specs.declared.judge.Judgement.{Judgement}
 use Rattle.table.specs.Refusals.{numberOf}
 use Rattle.logic.proofs.Tests.{cond-false}
 use Rattle.table.proofs.Numbers.{number-range, numbered, numbered-back}
@@ -48,6 +50,6 @@ pub one-answer : (a z : Answer) → numbersOf a ≡ numbersOf z → a ≡ z
 one-answer a z e = sym (answer-back a) ∙ ap answerIn e ∙ answer-back z
 
 -- a run's answer by its contract
-pub answer-is : {b log log′ scratch scratch′ : List ℕ} {budget : ℕ} {a : Answer} → Ran b budget log log′ scratch scratch′ (numbersOf a)
-    → a ≡ answerTo (callJudgement b budget (length scratch) (length log)) (runOf b budget)
+pub answer-is : {j : Judgement} {d : Theory} {log log′ scratch scratch′ : List ℕ} {budget : ℕ} {a : Answer} → Ran j d budget log log′ scratch scratch′ (numbersOf a)
+    → a ≡ answerTo (callJudgement j d budget (length scratch) (length log)) (runOf d budget)
 answer-is r = one-answer _ _ (r .answer)

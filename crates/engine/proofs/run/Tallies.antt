@@ -11,9 +11,8 @@ use borrow.Author.Tests.{leb-false, le-leb, lt-leb}
 use Rattle.logic.specs.Theory.{Theory}
 use Rattle.logic.proofs.Tests.{false-of, test-cases}
 use Rattle.table.specs.declared.format.Sizes.{Sizes}
-use Rattle.table.specs.declared.judge.Judgement.the-variants.{Accepted}
 use Rattle.table.specs.Format.{theoryIn}
-use Rattle.table.specs.Refusals.{judgementOf}
+use Rattle.table.specs.Refusals.{Legal}
 use Rattle.memory.specs.Layout.{tagCount}
 use Rattle.memory.specs.Api.{UsesAt, UsesIn, costIn}
 use Rattle.memory.proofs.charging.Costing.{cost-processed, uses-in}
@@ -32,7 +31,7 @@ unfolding tallyAfter
 tally-more budget cost t h = ap (λ b. cond b (record { worked = t .worked + 1; spent = t .spent + cost }) t) (le-leb cost (budget - t .spent) h)
 
 -- The cost of the next line by the memory is the reading's.
-module _ (b : List ℕ) (s : Sizes) (budget : ℕ) (mem log : List ℕ) (n : ℕ) (t : Tally) (accepted : judgementOf b ≡ Accepted s) (g : Next (theoryIn b s) budget mem log n t)
+module _ (b : List ℕ) (s : Sizes) (budget : ℕ) (mem log : List ℕ) (n : ℕ) (t : Tally) (accepted : Legal b s) (g : Next (theoryIn b s) budget mem log n t)
     {first end : ℕ} (at : UsesAt (theoryIn b s) (next log t / tagCount) first end) where
   small : next log t < tagCount * (2 * s .atoms)
   small = omega (arith, atoms-in b s, g .small)

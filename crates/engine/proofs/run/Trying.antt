@@ -25,10 +25,9 @@ use Rattle.logic.proofs.Coherence.{coherent-length, part-coherent}
 use Rattle.logic.proofs.Runs.{grow-append}
 use Rattle.logic.proofs.Plain.{plain-coherent, plain-lawful}
 use Rattle.table.specs.declared.format.Sizes.{Sizes}
-use Rattle.table.specs.declared.judge.Judgement.the-variants.{Accepted}
 use Rattle.table.specs.Format.{theoryIn}
-use Rattle.table.specs.Refusals.{judgementOf}
-use Rattle.table.proofs.Legal.{legal, Limited, limited, ranged, proper-theory}
+use Rattle.table.specs.Refusals.{Legal}
+use Rattle.table.proofs.Legal.{Limited, limited, ranged, proper-theory}
 use Rattle.memory.specs.Layout.{tagCount}
 use Rattle.memory.specs.Memory.{heldOf, writtenOf}
 use Rattle.memory.specs.Api.{adds, Wrote}
@@ -50,11 +49,11 @@ module _ (b : List ℕ) (s : Sizes) where
   unfolding theoryIn
   literal-in q h = h
 
-  pub few : judgementOf b ≡ Accepted s → Limited s
-  few e = limited s (legal b s e .limits)
+  pub few : Legal b s → Limited s
+  few e = limited s (e .limits)
 
-  pub proper-in : judgementOf b ≡ Accepted s → T (proper (theoryIn b s))
-  proper-in e = proper-theory b s (ranged b s (legal b s e .ranges))
+  pub proper-in : Legal b s → T (proper (theoryIn b s))
+  proper-in e = proper-theory b s (ranged b s (e .ranges))
 
 -- a conclusion by its literal and tag
 pub infers-at : (d : Theory) (h : ℕ → Bool) (q t : ℕ) → t < tagCount → plainSystem d .infers h (tagCount * q + t) ≡ follows d (taggedBy tagCount h) q t
@@ -221,7 +220,7 @@ module _ (d : Theory) (m l m′ l′ : List ℕ) (n n′ x : ℕ) (g : Logged d 
       (λ u. absurd (h (counted ∙ ap length (put-stays goes (take n l) x u) ∙ length-take-le n l (g .inside)))) (test-cases goes)
 
 -- Tag t of literal q of an accepted table.
-module _ (b : List ℕ) (s : Sizes) (e : judgementOf b ≡ Accepted s) (q t : ℕ) (l : q < 2 * s .atoms) (k : t < tagCount) where
+module _ (b : List ℕ) (s : Sizes) (e : Legal b s) (q t : ℕ) (l : q < 2 * s .atoms) (k : t < tagCount) where
   small-here : tagCount * q + t < tagCount * (2 * theoryIn b s .atoms)
   small-here = omega (arith, atoms-in b s)
 
@@ -265,7 +264,7 @@ unfolding withTags upto
 tried-tags {d} q f g = tried-on d f g
 
 -- A tag and its opposite, of an accepted table: of the two only one is ever written.
-module _ (b : List ℕ) (s : Sizes) (e : judgementOf b ≡ Accepted s) (q t : ℕ) (l : q < 2 * s .atoms) (k : t < 3) (even : t % 2 ≡ 0) where
+module _ (b : List ℕ) (s : Sizes) (e : Legal b s) (q t : ℕ) (l : q < 2 * s .atoms) (k : t < 3) (even : t % 2 ≡ 0) where
   abbrev first : ℕ
   first = tagCount * q + t
 

@@ -14,9 +14,8 @@ use Rattle.logic.specs.Reading.{visits, visited, heads, withTags}
 use Rattle.logic.proofs.Lists.{pick-append}
 use Rattle.logic.proofs.Theories.{heads-below}
 use Rattle.table.specs.declared.format.Sizes.{Sizes}
-use Rattle.table.specs.declared.judge.Judgement.the-variants.{Accepted}
 use Rattle.table.specs.Format.{theoryIn}
-use Rattle.table.specs.Refusals.{judgementOf}
+use Rattle.table.specs.Refusals.{Legal}
 use Rattle.memory.specs.Layout.{tagCount}
 use Rattle.memory.specs.Memory.{users}
 use Rattle.memory.specs.Api.{UsesAt}
@@ -62,7 +61,7 @@ module _ (d : Theory) (b : Bool) (r : ℕ) (v strict : Bool) (fv : v ≡ (isnt (
   rule-visited h q e f =
       tried-same (ap (λ z. withTags tagCount (z ∷ complement z ∷ [])) e ∙ ap (λ z. withTags tagCount (heads d (cond z (r ∷ []) []))) (sym (test-of ∙ h))) f
 
-pub head-small : (b : List ℕ) (s : Sizes) → judgementOf b ≡ Accepted s → (r q : ℕ) → r < s .rules → q ≡ headOf (theoryIn b s) r → q < 2 * s .atoms
+pub head-small : (b : List ℕ) (s : Sizes) → Legal b s → (r q : ℕ) → r < s .rules → q ≡ headOf (theoryIn b s) r → q < 2 * s .atoms
 head-small b s e r q h f =
     let k : headOf (theoryIn b s) r < 2 * theoryIn b s .atoms = heads-below (theoryIn b s) (proper-in b s e) r (omega (arith, rules-in b s)) in
     omega (arith, atoms-in b s)

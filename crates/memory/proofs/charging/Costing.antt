@@ -19,10 +19,9 @@ use Rattle.logic.proofs.Sums.{count-upto, total-add, total-ext, total-next, wei
 use Rattle.logic.proofs.Bodies.{all-same, one-same}
 use Rattle.logic.proofs.Literals.{join-split, split-below}
 use Rattle.table.specs.declared.format.Sizes.{Sizes}
-use Rattle.table.specs.declared.judge.Judgement.the-variants.{Accepted}
 use Rattle.table.specs.Format.{theoryIn}
-use Rattle.table.specs.Refusals.{judgementOf}
-use Rattle.table.proofs.Legal.{legal, limited}
+use Rattle.table.specs.Refusals.{Legal}
+use Rattle.table.proofs.Legal.{limited}
 use Rattle.table.proofs.Sorted.{bodies-apart}
 use Rattle.memory.specs.Layout.{tagCount, fieldSize}
 use Rattle.memory.specs.Fields.{has, sizeF, kindF, namingF, usesF}
@@ -245,12 +244,12 @@ module _ (w : ℕ → ℕ → ℕ) (u : ℕ → ℕ) (t first : ℕ) where
   cost-end a z g = g ∙ ap (costBy w u t first) (le-antisymm a z)
 
 -- a conclusion's cost, by the uses of its literal
-module _ (b : List ℕ) (s : Sizes) (m : List ℕ) (x : ℕ) (accepted : judgementOf b ≡ Accepted s) (ready : Ready (theoryIn b s) m) (small : x < tagCount * (2 * s .atoms)) where
+module _ (b : List ℕ) (s : Sizes) (m : List ℕ) (x : ℕ) (accepted : Legal b s) (ready : Ready (theoryIn b s) m) (small : x < tagCount * (2 * s .atoms)) where
   literal : x / tagCount < 2 * s .atoms
   literal = split-below tagCount (2 * s .atoms) x (omega arith) (omega arith)
 
   few : (s .atoms ≤ 512) × (s .rules ≤ fieldSize)
-  few = (limited s (legal b s accepted .limits) .atoms, limited s (legal b s accepted .limits) .rules)
+  few = (limited s (accepted .limits) .atoms, limited s (accepted .limits) .rules)
 
   module _ {first end : ℕ} (at : UsesAt (theoryIn b s) (x / tagCount) first end) where
     in-theory : x / tagCount < 2 * theoryIn b s .atoms

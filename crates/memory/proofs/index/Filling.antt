@@ -12,10 +12,9 @@ use Rattle.logic.specs.Theory.{isFact}
 use Rattle.logic.proofs.Tests.{and-left, and-right, at-most, cond-false, eq→eqb, or-elim, test-cases}
 use Rattle.logic.proofs.Sums.{total-next, total-zero, weigh-false, weigh-le}
 use Rattle.table.specs.declared.format.Sizes.{Sizes}
-use Rattle.table.specs.declared.judge.Judgement.the-variants.{Accepted}
 use Rattle.table.specs.Format.{entryAt, pairAt, bodyIn, theoryIn}
-use Rattle.table.specs.Refusals.{judgementOf}
-use Rattle.table.proofs.Legal.{legal, Limited, limited, ranged, head-below, stronger-below}
+use Rattle.table.specs.Refusals.{Legal}
+use Rattle.table.proofs.Legal.{Limited, limited, ranged, head-below, stronger-below}
 use Rattle.memory.specs.Layout.{tagCount, fieldCount, fieldSize, usesSize, memorySize}
 use Rattle.memory.specs.Fields.{has, sizeF, headF, kindF, namingF, rivalsF, firstF, beatenF, lostF, usesF, strictF, supportF, headedF, factF, provedF, refutedF, firingF, outF, counteredF, unopposedF, inIndex}
 use Rattle.memory.specs.Memory.{view, useAt, users, usesFrom, Indexed, fires, isOut, Counted}
@@ -31,9 +30,9 @@ past : (m : List ℕ) (f i : ℕ) → fieldSize ≤ i → view m f i ≡ 0
 unfolding view
 past m f i h = cond-false (ltb f fieldCount and ltb i fieldSize) _ _ (λ t. let l : i < fieldSize = ltb→lt i fieldSize (and-right _ _ t) in omega arith)
 
-module _ (b : List ℕ) (s : Sizes) (a : judgementOf b ≡ Accepted s) {m0 m1 : List ℕ} (z : Low m0 0) (g1 : Grew m0 m1 (rulesTo (theoryIn b s) (s .rules))) where
+module _ (b : List ℕ) (s : Sizes) (a : Legal b s) {m0 m1 : List ℕ} (z : Low m0 0) (g1 : Grew m0 m1 (rulesTo (theoryIn b s) (s .rules))) where
   small : Limited s
-  small = limited s (legal b s a .limits)
+  small = limited s (a .limits)
 
   pub room-1 : memorySize ≤ length m1
   room-1 = omega (arith, z .room, g1 .kept .size)
@@ -43,7 +42,7 @@ module _ (b : List ℕ) (s : Sizes) (a : judgementOf b ≡ Accepted s) {m0 m1 : 
 
   heads : (r : ℕ) → r < s .rules → theoryIn b s .rule r .head ≤ fieldSize
   unfolding theoryIn
-  heads r h = omega (arith, head-below b s (ranged b s (legal b s a .ranges)) r h, small .atoms)
+  heads r h = omega (arith, head-below b s (ranged b s (a .ranges)) r h, small .atoms)
 
   module _ {m2 : List ℕ} (g2 : Facts (theoryIn b s) (s .facts) m1 m2) where
     pub low-2 : Low m2 8192
@@ -223,7 +222,7 @@ module _ (b : List ℕ) (s : Sizes) (a : judgementOf b ≡ Accepted s) {m0 m1 : 
                   }
                 where
                   strong : (i : ℕ) → i < s .pairs → pairAt b s i .stronger < s .rules
-                  strong = stronger-below b s (ranged b s (legal b s a .ranges))
+                  strong = stronger-below b s (ranged b s (a .ranges))
 
                   beats : (r : ℕ) → T (ltb 0 (view m7 beatenF r)) → ⊥
                   beats r u = let e : 0 < view m7 beatenF r = ltb→lt _ _ u in let g : view m7 beatenF r ≡ 0 = moving-7 beatenF r (past-rule beatenF (omega arith) (inl (omega arith))) in omega arith

@@ -13,10 +13,9 @@ use Rattle.logic.proofs.Sums.{weigh-false, weigh-true}
 use Rattle.table.specs.declared.format.Sizes.{Sizes}
 use Rattle.table.specs.declared.format.Pair.{Pair}
 use Rattle.table.specs.declared.format.Literal.{Literal}
-use Rattle.table.specs.declared.judge.Judgement.the-variants.{Accepted}
 use Rattle.table.specs.Format.{factAt, pairAt, factsFrom, theoryIn}
-use Rattle.table.specs.Refusals.{judgementOf}
-use Rattle.table.proofs.Legal.{limited, ranged, legal, right-in, stronger-below}
+use Rattle.table.specs.Refusals.{Legal}
+use Rattle.table.proofs.Legal.{limited, ranged, right-in, stronger-below}
 use Rattle.memory.specs.Layout.{fieldCount, fieldSize, memorySize}
 use Rattle.memory.specs.Fields.{firstF, factF}
 use Rattle.memory.specs.Memory.{view, useAt}
@@ -51,7 +50,7 @@ pub filled-next : (f v i : ℕ) {m n o : List ℕ} → f < fieldCount → i < fi
 filled-next f v i {m} {n} {o} hf hi l e (k, a) =
     (only-next f i v hf hi e k, λ r h. ⊎-elim (λ u. stored-not f i v n o hf hi e r (λ g. omega arith) ∙ a r u) (λ g. ap (view o f) g ∙ stored f i v n o hf hi (omega (arith, k .kept .size)) e) (lt-suc-cases r i (omega arith)))
 
-module _ (b : List ℕ) (s : Sizes) (a : judgementOf b ≡ Accepted s) where
+module _ (b : List ℕ) (s : Sizes) (a : Legal b s) where
   pub facts-none : (m : List ℕ) → ((q : ℕ) → view m factF q ≡ 0) → Facts (theoryIn b s) 0 m m
   facts-none m z =
       record {
@@ -61,7 +60,7 @@ module _ (b : List ℕ) (s : Sizes) (a : judgementOf b ≡ Accepted s) where
 
   fact-small : (i : ℕ) → i < s .facts → factAt b s i .0 < fieldSize
   fact-small i h =
-      omega (arith, right-in b s (factsFrom s) (s .facts) i h, ranged b s (legal b s a .ranges) .facts i h, limited s (legal b s a .limits) .atoms)
+      omega (arith, right-in b s (factsFrom s) (s .facts) i h, ranged b s (a .ranges) .facts i h, limited s (a .limits) .atoms)
 
   -- a fact that was read
   module _ {m n : List ℕ} (i : ℕ) (h : i < s .facts) (p : Literal) (e : p ≡ factAt b s i) (k : Facts (theoryIn b s) i m n) where
@@ -107,7 +106,7 @@ module _ (b : List ℕ) (s : Sizes) (a : judgementOf b ≡ Accepted s) where
     pub firsts-small : p .stronger < fieldSize
     firsts-small =
         let same : p .stronger ≡ pairAt b s i .stronger = ap (λ z. z .stronger) e in
-        omega (arith, stronger-below b s (ranged b s (legal b s a .ranges)) i h, limited s (legal b s a .limits) .rules)
+        omega (arith, stronger-below b s (ranged b s (a .ranges)) i h, limited s (a .limits) .rules)
 
     pub firsts-next : {m n o : List ℕ} (w : ℕ) → w ≡ i + 1 → Firsts (theoryIn b s) w m n → memorySize ≤ length m → o ≡ set n (fieldSize * firstF + p .stronger) i → Firsts (theoryIn b s) i m o
     unfolding theoryIn

@@ -13,9 +13,8 @@ use Rattle.logic.specs.Tests.{_and_, isnt, pick}
 use Rattle.logic.specs.Theory.{complement, bodyOf}
 use Rattle.logic.proofs.Tests.{and-left, and-right, cond-false, lt-suc-cases, of-false, test-cases}
 use Rattle.table.specs.declared.format.Sizes.{Sizes}
-use Rattle.table.specs.declared.judge.Judgement.the-variants.{Accepted}
 use Rattle.table.specs.Format.{theoryIn}
-use Rattle.table.specs.Refusals.{judgementOf}
+use Rattle.table.specs.Refusals.{Legal}
 use Rattle.memory.specs.Layout.{tagCount, fieldCount, fieldSize, memorySize}
 use Rattle.memory.specs.Fields.{has}
 use Rattle.memory.specs.Memory.{view, heldOf, writtenOf, virtual}
@@ -62,7 +61,7 @@ module _ (b : List ℕ) (s : Sizes) where
   unfolding theoryIn
   all-lacking t r k h l = omega (arith, k .left t r l (omega arith), k .left (complement t) r (omega arith) (omega arith), k .invariant .index .sizes r h)
 
-  module _ (r : ℕ) {m n : List ℕ} (e : judgementOf b ≡ Accepted s) (k : Started (theoryIn b s) r m n) (h : r < s .rules) where
+  module _ (r : ℕ) {m n : List ℕ} (e : Legal b s) (k : Started (theoryIn b s) r m n) (h : r < s .rules) where
     pub first-asks : Asks b s n r 0
     first-asks = (e, k .invariant, h, omega arith, all-lacking 0 r k h (omega arith))
 

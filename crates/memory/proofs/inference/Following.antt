@@ -17,10 +17,9 @@ use Rattle.logic.specs.Standing.{firstFit, standing}
 use Rattle.logic.proofs.Tests.{and-intro, and-left, and-right, and-true, and-under, eq→eqb, every-elim, every-intro, false-of, implies-elim, implies-intro, isnt-elim, isnt-intro, or-elim, or-left, or-right, some-elim, some-intro, test-cases, test-eq, true-of}
 use Rattle.logic.proofs.Literals.{complement-below, complement-complement, join-div, join-mod}
 use Rattle.table.specs.declared.format.Sizes.{Sizes}
-use Rattle.table.specs.declared.judge.Judgement.the-variants.{Accepted}
 use Rattle.table.specs.Format.{theoryIn}
-use Rattle.table.specs.Refusals.{judgementOf}
-use Rattle.table.proofs.Legal.{legal, limited, ranged, stronger-below}
+use Rattle.table.specs.Refusals.{Legal}
+use Rattle.table.proofs.Legal.{limited, ranged, stronger-below}
 use Rattle.memory.specs.Layout.{tagCount, fieldSize}
 use Rattle.memory.specs.Fields.{has, sizeF, rivalsF, beatenF, lostF, strictF, supportF, headedF, factF, provedF, refutedF, firingF, outF, counteredF, unopposedF}
 use Rattle.memory.specs.Memory.{view, heldOf, fires, isOut, antecedents, virtual, Ready}
@@ -266,11 +265,11 @@ module _ (w : ℕ → ℕ → ℕ) (q : ℕ) where
         not-defeasibly-beaten z eu = ap (ltb 0) (eu ∙ ap (w unopposedF) en) ∙ or-no _ (refuted ∙ z) ∙ and-yes _ (sym ep ∙ yes)
 
 -- an accepted table's literals are below 1,024
-pub small-literal : (b : List ℕ) (s : Sizes) (q : ℕ) → judgementOf b ≡ Accepted s → q < 2 * s .atoms → q < fieldSize
-small-literal b s q e h = let l : s .atoms ≤ 512 = limited s (legal b s e .limits) .atoms in omega arith
+pub small-literal : (b : List ℕ) (s : Sizes) (q : ℕ) → Legal b s → q < 2 * s .atoms → q < fieldSize
+small-literal b s q e h = let l : s .atoms ≤ 512 = limited s (e .limits) .atoms in omega arith
 
 -- each test as what follows, for an accepted table
-module _ (b : List ℕ) (s : Sizes) (m : List ℕ) (q : ℕ) (accepted : judgementOf b ≡ Accepted s) (ready : Ready (theoryIn b s) m) (small : q < 2 * s .atoms) where
+module _ (b : List ℕ) (s : Sizes) (m : List ℕ) (q : ℕ) (accepted : Legal b s) (ready : Ready (theoryIn b s) m) (small : q < 2 * s .atoms) where
   abbrev Follows : Bool → ℕ → Type 0
   Follows r t = r ≡ inference.follows (theoryIn b s) (taggedBy tagCount (heldOf m)) q t
 
@@ -284,10 +283,10 @@ module _ (b : List ℕ) (s : Sizes) (m : List ℕ) (q : ℕ) (accepted : judgeme
 
   pub follows-2 : {r : Bool} {t : ℕ} → t ≡ 2 → r ≡ defeasiblyBy (view m) q → Follows r t
   unfolding theoryIn inference.follows
-  follows-2 {r} e f = subst (Follows r) (sym e) (f ∙ defeasibly-by (theoryIn b s) m ready q small (stronger-below b s (ranged b s (legal b s accepted .ranges))))
+  follows-2 {r} e f = subst (Follows r) (sym e) (f ∙ defeasibly-by (theoryIn b s) m ready q small (stronger-below b s (ranged b s (accepted .ranges))))
 
   pub follows-3 : {r : Bool} {t : ℕ} → (t ≡ 0 → ⊥) → (t ≡ 1 → ⊥) → (t ≡ 2 → ⊥) → t < tagCount → r ≡ notDefeasiblyBy (view m) q → Follows r t
   unfolding theoryIn inference.follows
   follows-3 {r} {t} n0 n1 n2 h f =
       let e : t ≡ 3 = last-tag t n0 n1 n2 h in
-      subst (Follows r) (sym e) (f ∙ not-defeasibly-by (theoryIn b s) m ready q small (stronger-below b s (ranged b s (legal b s accepted .ranges))))
+      subst (Follows r) (sym e) (f ∙ not-defeasibly-by (theoryIn b s) m ready q small (stronger-below b s (ranged b s (accepted .ranges))))

@@ -11,10 +11,9 @@ use Rattle.logic.specs.Theory.{bodyOf}
 use Rattle.logic.proofs.Tests.{eq→eqb, false-of}
 use Rattle.logic.proofs.Lists.{length-upto, pick-le}
 use Rattle.table.specs.declared.format.Sizes.{Sizes}
-use Rattle.table.specs.declared.judge.Judgement.the-variants.{Accepted}
 use Rattle.table.specs.Format.{entryAt, bodyIn, theoryIn}
-use Rattle.table.specs.Refusals.{judgementOf}
-use Rattle.table.proofs.Legal.{legal, limited, ranged, head-below}
+use Rattle.table.specs.Refusals.{Legal}
+use Rattle.table.proofs.Legal.{limited, ranged, head-below}
 use Rattle.table.proofs.Pairs.{pairs-in-order}
 use Rattle.memory.specs.Layout.{tagCount, fieldCount, fieldSize, memorySize}
 use Rattle.memory.specs.Fields.{has, sizeF}
@@ -26,10 +25,10 @@ use Rattle.memory.proofs.visit.Steps.{raised-set, undecided, visited-of
 use Rattle.memory.proofs.deciding.Deciding.{just-decided, just-two}
 
 module _ (b : List ℕ) (s : Sizes) where
-  pub well-formed : judgementOf b ≡ Accepted s → WellFormed (theoryIn b s)
+  pub well-formed : Legal b s → WellFormed (theoryIn b s)
   unfolding theoryIn
   well-formed e =
-      let l = legal b s e in
+      let l = e in
       record {
         order = pairs-in-order b s e;
         few = limited s (l .limits) .atoms;
@@ -49,7 +48,7 @@ module _ (b : List ℕ) (s : Sizes) where
 
   -- what a visit asks
   abbrev pub Asks : List ℕ → ℕ → ℕ → Type 0
-  Asks m r t = (judgementOf b ≡ Accepted s) × Invariant (theoryIn b s) m × (r < s .rules) × (t < tagCount) × Lacks (view m) t r
+  Asks m r t = Legal b s × Invariant (theoryIn b s) m × (r < s .rules) × (t < tagCount) × Lacks (view m) t r
 
   -- by words, and by the same numbers as indices
   module _ (m : List ℕ) {r t r' t' : ℕ} (e : r' ≡ r) (f : t' ≡ t) where
@@ -61,7 +60,7 @@ module _ (b : List ℕ) (s : Sizes) where
 
   module _ (m : List ℕ) (r t : ℕ) (p : Asks m r t) where
     small : r < fieldSize
-    small = omega (arith, p .2, limited s (legal b s (p .0) .limits) .rules)
+    small = omega (arith, p .2, limited s (p .0 .limits) .rules)
 
     inside : r < theoryIn b s .rules
     unfolding theoryIn
@@ -79,7 +78,7 @@ module _ (b : List ℕ) (s : Sizes) where
       omega (arith, p .3),
       small,
       p .1 .room,
-      omega (arith, p .4, p .1 .index .sizes r inside, body-short r, limited s (legal b s (p .0) .limits) .entries),
+      omega (arith, p .4, p .1 .index .sizes r inside, body-short r, limited s (p .0 .limits) .entries),
     )
 
     -- the antecedent has its tag

@@ -17,10 +17,9 @@ use Rattle.logic.proofs.Lists.{distinct-before, distinct-pick, distinct-upto, m
 use Rattle.logic.proofs.Sums.{pick-one-more, weigh-false, weigh-true}
 use Rattle.logic.proofs.Literals.{complement-other, join-div, join-mod, join-split, split-below}
 use Rattle.table.specs.declared.format.Sizes.{Sizes}
-use Rattle.table.specs.declared.judge.Judgement.the-variants.{Accepted}
 use Rattle.table.specs.Format.{theoryIn}
-use Rattle.table.specs.Refusals.{judgementOf}
-use Rattle.table.proofs.Legal.{legal, limited}
+use Rattle.table.specs.Refusals.{Legal}
+use Rattle.table.proofs.Legal.{limited}
 use Rattle.table.proofs.Sorted.{bodies-apart}
 use Rattle.memory.specs.Layout.{tagCount, fieldCount, fieldSize, usesSize, memorySize}
 use Rattle.memory.specs.Fields.{mark, has}
@@ -254,7 +253,7 @@ module _ (d : Theory) (bodies : (r : ℕ) → T (distinct (bodyOf d r))) (few : 
 
 -- the walk over the uses, of the values that the code has at hand
 module _ (b : List ℕ) (s : Sizes) (m₀ : List ℕ) (p t : ℕ)
-    (a : (judgementOf b ≡ Accepted s) × Ready (theoryIn b s) m₀ × (p < 2 * s .atoms) × (t < tagCount) × (heldOf m₀ (tagCount * p + t) ≡ false) × Coherent (adds (heldOf m₀) (tagCount * p + t)))
+    (a : Legal b s × Ready (theoryIn b s) m₀ × (p < 2 * s .atoms) × (t < tagCount) × (heldOf m₀ (tagCount * p + t) ≡ false) × Coherent (adds (heldOf m₀) (tagCount * p + t)))
     {first end : ℕ} (at : UsesAt (theoryIn b s) p first end) where
   in-theory : p < 2 * theoryIn b s .atoms
   unfolding theoryIn
@@ -272,7 +271,7 @@ module _ (b : List ℕ) (s : Sizes) (m₀ : List ℕ) (p t : ℕ)
       use-asks-small = (spread-small (theoryIn b s) (bodies-apart b s (a .0)) p t in-theory (a .3) m₀ (a .1) at m k w h, w .invariant .room)
 
       pub visit-asks : (r : ℕ) → r ≡ useAt m k
-          → (judgementOf b ≡ Accepted s) × Invariant (theoryIn b s) m × (r < s .rules) × (t < tagCount) × Lacks (view m) t r
+          → Legal b s × Invariant (theoryIn b s) m × (r < s .rules) × (t < tagCount) × Lacks (view m) t r
       unfolding theoryIn
       visit-asks r f = (
         a .0,
@@ -287,14 +286,14 @@ module _ (b : List ℕ) (s : Sizes) (m₀ : List ℕ) (p t : ℕ)
 
 -- and the whole
 module _ (b : List ℕ) (s : Sizes) (m : List ℕ) (x p t : ℕ) (e : p ≡ x / tagCount) (f : t ≡ x % tagCount)
-    (a : (judgementOf b ≡ Accepted s) × Ready (theoryIn b s) m × (x < tagCount * (2 * s .atoms)) × (writtenOf m x ≡ true) × (heldOf m x ≡ false) × Coherent (adds (heldOf m) x)) where
+    (a : Legal b s × Ready (theoryIn b s) m × (x < tagCount * (2 * s .atoms)) × (writtenOf m x ≡ true) × (heldOf m x ≡ false) × Coherent (adds (heldOf m) x)) where
   atoms-few : s .atoms ≤ 512
-  atoms-few = limited s (legal b s (a .0) .limits) .atoms
+  atoms-few = limited s (a .0 .limits) .atoms
 
   quarter : x / tagCount < 2 * s .atoms
   quarter = let h : x < tagCount * (2 * s .atoms) = omega (arith, a .2) in split-below tagCount (2 * s .atoms) x (omega arith) h
 
-  pub uses-asks : ((judgementOf b ≡ Accepted s) × Ready (theoryIn b s) m × (p < 2 * s .atoms) × (t < tagCount) × (heldOf m (tagCount * p + t) ≡ false) × Coherent (adds (heldOf m) (tagCount * p + t))) × ((p < fieldSize) × (memorySize ≤ length m))
+  pub uses-asks : (Legal b s × Ready (theoryIn b s) m × (p < 2 * s .atoms) × (t < tagCount) × (heldOf m (tagCount * p + t) ≡ false) × Coherent (adds (heldOf m) (tagCount * p + t))) × ((p < fieldSize) × (memorySize ≤ length m))
   uses-asks =
       let r : x % tagCount < tagCount = mod-lt x (omega arith) in
       let i : tagCount * p + t ≡ x = ap₂ (λ y z. tagCount * y + z) e f ∙ join-split tagCount x in (

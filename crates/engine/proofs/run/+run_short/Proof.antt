@@ -47,5 +47,5 @@ pub +run-short-spec : {M : Type 1} → statement M
     (λ c. search needs) (λ c. search needs)
     (λ c.
     let at-run-short = c .before .before .before .before in let paid = at-run-short .before .before .before .before .before .before .before .pre .1 in
-    ran-cut _ _ _ _ _ (paid .accepted) (paid .words) _ _ _ (at-run-short .run-short .ensures) refl)
+    ran-cut _ _ (paid .accepted) _ _ _ (paid .words) _ _ _ (at-run-short .run-short .ensures) refl)
     (λ c κs. c .before .before .before .before .before .before .pre .1) (λ c. search needs) (λ c. search needs) (λ c. search needs))

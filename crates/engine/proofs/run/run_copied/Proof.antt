@@ -3,7 +3,7 @@ use Prim.Native.Nat.{_≤_, _<_}
 use mathlib.Core.Path.{subst}
 use lib.ListN.{length}
 use Rattle.engine.proofs.answer.Buffers.{short-log}
-use Rattle.engine.proofs.run.Answering.{lines-written, lines-inside, worked-copied, ran, ran-refused}
+use Rattle.engine.proofs.run.Answering.{lines-written, lines-inside, worked-copied, ran, ran-short}
 use borrow.Author.Needs.{needs}
 use Rattle.engine.proofs.run.run_copied.Statement.{statement}
 use Rattle.engine.proofs.run.run_copied.Tie as tie
@@ -12,7 +12,7 @@ returns : tie.Need-returns
 returns c =
     let at-refuse = c .before .before .before .before in let at-if1 = at-refuse .before .before .before in let at-numbers = at-if1 .before .before in let at-run-started = at-numbers .before .before .before .before .before in
     let start = at-run-started .before .before .before .before .before .before .before .before in let paid = start .pre .0 in
-    ran-refused _ _ _ _
+    ran-short _ _ (paid .accepted) _ _ _
     (short-log _ _ (paid .accepted) _ _ _ (paid .words)
     (subst (λ n. length (start .args .log .now) < n) (lines-written _ _ (paid .accepted) _ (at-run-started .run-started .ensures) _ (at-numbers .numbers .ensures)) (at-if1 .if1 .taken)))
     (at-refuse .refuse .ensures)
@@ -27,7 +27,7 @@ returns-2 : tie.Need-returns-2
 returns-2 c =
     let at-clear = c .before .before in let at-copy-lines = at-clear .before .before .before .before in let at-if1 = at-copy-lines .before .before .before in let at-numbers = at-if1 .before .before in
     let at-run-started = at-numbers .before .before .before .before .before in let start = at-run-started .before .before .before .before .before .before .before .before in let paid = start .pre .0 in
-    ran _ _ _ _ _ (paid .accepted) (paid .words)
+    ran _ _ (paid .accepted) _ _ _ (paid .words)
     (subst (λ n. n ≤ length (start .args .log .now)) (lines-written _ _ (paid .accepted) _ (at-run-started .run-started .ensures) _ (at-numbers .numbers .ensures)) (at-if1 .if1 .left))
     _ _ _ _ (worked-copied _ _ (paid .accepted) _ (at-run-started .run-started .ensures) _ (at-numbers .numbers .ensures) _ _ _ (at-copy-lines .copy-lines .ensures))
     (at-clear .clear .ensures)

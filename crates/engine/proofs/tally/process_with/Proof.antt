@@ -42,9 +42,8 @@ use denote.Triple.Walked.{says, needs, Stays, stay-ref, stay-dropped, gave-slice
 use denote.Exit.{yes}
 use denote.Signature.{plain, shrSliceOf}
 use Rattle.table.specs.declared.format.Sizes.{Sizes}
-use Rattle.table.specs.declared.judge.Judgement.the-variants.{Accepted}
 use Rattle.table.specs.Format.{theoryIn}
-use Rattle.table.specs.Refusals.{judgementOf}
+use Rattle.table.specs.Refusals.{Legal}
 use Rattle.table.proofs.format.Sizes as S
 use Rattle.table.proofs.format.Sizes.Laws as S′
 use Rattle.engine.specs.declared.tally.Tally.{Tally}
@@ -104,7 +103,7 @@ module _ {M : Type 1} (𝓤 : URA M) (H : Heap 𝓤) (A : Atoms 𝓤) (W : Given
 
   -- what `process`'s triple binds outside, and that the caller has what it asks
   abbrev Asked : Type 0
-  Asked = (judgementOf (x .now) ≡ Accepted s) × Next (theoryIn (x .now) s) budget (m .now) (l .now) n t
+  Asked = Legal (x .now) s × Next (theoryIn (x .now) s) budget (m .now) (l .now) n t
 
   abbrev Told : List ℕ → List ℕ → ℕ → Tally → Type 0
   Told m′ l′ n′ t′ = Stepped (theoryIn (x .now) s) budget (m .now) (l .now) n t m′ l′ n′ t′
@@ -196,7 +195,7 @@ module _ {M : Type 1} (𝓤 : URA M) (H : Heap 𝓤) (A : Atoms 𝓤) (W : Given
   process-with-walks C Λ fm known = walked 𝓤 H A process-with.ended stayed (process-with.clauses 𝓤 H A at-mem run) (WpFn 𝓤 H C Λ code.function)
       (λ κs. (slice-vals, (LL.vals S.the-type S′.the-laws, (uint-vals w32, (slice-vals, (slice-vals, (uint-vals w32, (ptr-vals, tt))))))))
       (λ κs. (shr-slice-tells (named 0) (κs .0) u8, (LL.tells S.the-type S′.the-laws, (uint-tells w32, (mut-slice-tells (named 1) (κs .1 .0) u16, (mut-slice-tells (named 2) (κs .1 .1 .0) u16, (uint-tells w32, (mut-tells (named 3) (κs .1 .1 .1 .0) T.the-row, tt))))))))
-      (λ κs qs bounds a g are. needs 𝓤 ((judgementOf (a .0 .now) ≡ Accepted (a .1 .0)) × Next (theoryIn (a .0 .now) (a .1 .0)) (a .1 .1 .0) (a .1 .1 .1 .0 .now) (a .1 .1 .1 .1 .0 .now) (a .1 .1 .1 .1 .1 .0) (a .1 .1 .1 .1 .1 .1 .0 .now)) _
+      (λ κs qs bounds a g are. needs 𝓤 (Legal (a .0 .now) (a .1 .0) × Next (theoryIn (a .0 .now) (a .1 .0)) (a .1 .1 .0) (a .1 .1 .1 .0 .now) (a .1 .1 .1 .1 .0 .now) (a .1 .1 .1 .1 .1 .0) (a .1 .1 .1 .1 .1 .1 .0 .now)) _
       (walk 𝓤 H A W at-mem run (κs .0) (κs .1 .0) (κs .1 .1 .0) (κs .1 .1 .1 .0) (qs .0) (qs .1 .0) (qs .1 .1 .0) (qs .1 .1 .1 .0)
       (a .0) (a .1 .0) (a .1 .1 .0) (a .1 .1 .1 .0) (a .1 .1 .1 .1 .0) (a .1 .1 .1 .1 .1 .0) (a .1 .1 .1 .1 .1 .1 .0 .ptr .0) (a .1 .1 .1 .1 .1 .1 .0 .ptr .1) (a .1 .1 .1 .1 .1 .1 .0 .name) (a .1 .1 .1 .1 .1 .1 .0 .now)
       C Λ fm known (are .0 .0 .1) (are .1 .0) (are .1 .1 .0 .1) (are .1 .1 .1 .0 .0 .1) (are .1 .1 .1 .1 .0 .0 .1) (are .1 .1 .1 .1 .1 .0 .1)))

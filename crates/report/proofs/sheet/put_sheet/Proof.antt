@@ -11,45 +11,45 @@ use Rattle.report.proofs.sheet.put_sheet.Tie as tie
 put-run-requires : tie.Need-put-run-requires
 put-run-requires c κs =
     let at-c = c .before .before .before in let at-run = at-c .before .before .before .before in let at-bound-of = at-run .before .before .before in
-    let at-read-sizes = at-bound-of .before in
-    let start = at-read-sizes .before .before .before in (
-      stopped-fits (at-read-sizes .read-sizes .result .atoms) (at-bound-of .bound-of .result) (at-run .run .last .1 .1 .0) (at-run .run .result) _ (at-c .c .given .1)
-          (ran-fits (at-run .run .result) (at-run .run .ensures) (length-replicate {A = ℕ} 2048 0) (length-replicate {A = ℕ} 32768 0) (at-read-sizes .read-sizes .result) (at-read-sizes .read-sizes .ensures) (at-bound-of .bound-of .ensures)),
+    let at-sizes-of = at-bound-of .before in
+    let start = at-sizes-of .before .before .before in (
+      stopped-fits (at-sizes-of .sizes-of .result .atoms) (at-bound-of .bound-of .result) (at-run .run .last .1 .1 .1 .0) (at-run .run .result) _ (at-c .c .given .1)
+          (ran-fits (at-run .run .result) (length-replicate {A = ℕ} 2048 0) (length-replicate {A = ℕ} 32768 0) (start .args .table .now) (at-run .run .ensures) (at-sizes-of .sizes-of .result) (at-sizes-of .sizes-of .ensures) (at-bound-of .bound-of .ensures)),
       (start .pre),
     )
 
 put-run-requires-2 : tie.Need-put-run-requires-2
 put-run-requires-2 c κs =
     let at-c2 = c .before .before .before in let at-run = at-c2 .before .before .before .before in let at-bound-of = at-run .before .before .before in
-    let at-read-sizes = at-bound-of .before in
-    let start = at-read-sizes .before .before .before in (
-      finished-fits (at-read-sizes .read-sizes .result .atoms) (at-bound-of .bound-of .result) (at-run .run .last .1 .1 .0) (at-run .run .result) _ (at-c2 .c2 .given .1)
-          (ran-fits (at-run .run .result) (at-run .run .ensures) (length-replicate {A = ℕ} 2048 0) (length-replicate {A = ℕ} 32768 0) (at-read-sizes .read-sizes .result) (at-read-sizes .read-sizes .ensures) (at-bound-of .bound-of .ensures)),
+    let at-sizes-of = at-bound-of .before in
+    let start = at-sizes-of .before .before .before in (
+      finished-fits (at-sizes-of .sizes-of .result .atoms) (at-bound-of .bound-of .result) (at-run .run .last .1 .1 .1 .0) (at-run .run .result) _ (at-c2 .c2 .given .1)
+          (ran-fits (at-run .run .result) (length-replicate {A = ℕ} 2048 0) (length-replicate {A = ℕ} 32768 0) (start .args .table .now) (at-run .run .ensures) (at-sizes-of .sizes-of .result) (at-sizes-of .sizes-of .ensures) (at-bound-of .bound-of .ensures)),
       (start .pre),
     )
 
 returns : tie.Need-returns
 returns c =
     let at-put-refused = c .before .before in let at-why = at-put-refused .before .before .before in let at-run = at-why .before .before .before .before in
-    let at-bound-of = at-run .before .before .before in let at-read-sizes = at-bound-of .before in let start = at-read-sizes .before .before .before in
+    let at-bound-of = at-run .before .before .before in let at-sizes-of = at-bound-of .before in let start = at-sizes-of .before .before .before in
     subst (λ z. Put (start .args .out .now) 0 z (at-put-refused .put-refused .last .0) (at-put-refused .put-refused .result))
-    (refused-text (at-read-sizes .read-sizes .result .atoms) (at-bound-of .bound-of .result) (at-run .run .last .1 .1 .0) (at-run .run .result) _ (at-why .why .given .1) ∙ ran-sheet (at-run .run .result) (at-run .run .ensures) (length-replicate {A = ℕ} 2048 0) (length-replicate {A = ℕ} 32768 0) (at-read-sizes .read-sizes .result) (at-read-sizes .read-sizes .ensures) (at-bound-of .bound-of .ensures))
+    (refused-text (at-sizes-of .sizes-of .result .atoms) (at-bound-of .bound-of .result) (at-run .run .last .1 .1 .1 .0) (at-run .run .result) _ (at-why .why .given .1) ∙ ran-sheet (at-run .run .result) (length-replicate {A = ℕ} 2048 0) (length-replicate {A = ℕ} 32768 0) (start .args .table .now) (at-run .run .ensures) (at-sizes-of .sizes-of .result) (at-sizes-of .sizes-of .ensures) (at-bound-of .bound-of .ensures))
     (at-put-refused .put-refused .ensures)
 
 returns-2 : tie.Need-returns-2
 returns-2 c =
     let at-put-run = c .before .before in let at-c = at-put-run .before .before .before .before in let at-run = at-c .before .before .before .before in
-    let at-bound-of = at-run .before .before .before in let at-read-sizes = at-bound-of .before in let start = at-read-sizes .before .before .before in
+    let at-bound-of = at-run .before .before .before in let at-sizes-of = at-bound-of .before in let start = at-sizes-of .before .before .before in
     subst (λ z. Put (start .args .out .now) 0 z (at-put-run .put-run .last .0) (at-put-run .put-run .result))
-    (stopped-text (at-read-sizes .read-sizes .result .atoms) (at-bound-of .bound-of .result) (at-run .run .last .1 .1 .0) (at-run .run .result) _ (at-c .c .given .1) ∙ ran-sheet (at-run .run .result) (at-run .run .ensures) (length-replicate {A = ℕ} 2048 0) (length-replicate {A = ℕ} 32768 0) (at-read-sizes .read-sizes .result) (at-read-sizes .read-sizes .ensures) (at-bound-of .bound-of .ensures))
+    (stopped-text (at-sizes-of .sizes-of .result .atoms) (at-bound-of .bound-of .result) (at-run .run .last .1 .1 .1 .0) (at-run .run .result) _ (at-c .c .given .1) ∙ ran-sheet (at-run .run .result) (length-replicate {A = ℕ} 2048 0) (length-replicate {A = ℕ} 32768 0) (start .args .table .now) (at-run .run .ensures) (at-sizes-of .sizes-of .result) (at-sizes-of .sizes-of .ensures) (at-bound-of .bound-of .ensures))
     (at-put-run .put-run .ensures)
 
 returns-3 : tie.Need-returns-3
 returns-3 c =
     let at-put-run2 = c .before .before in let at-c2 = at-put-run2 .before .before .before .before in let at-run = at-c2 .before .before .before .before in
-    let at-bound-of = at-run .before .before .before in let at-read-sizes = at-bound-of .before in let start = at-read-sizes .before .before .before in
+    let at-bound-of = at-run .before .before .before in let at-sizes-of = at-bound-of .before in let start = at-sizes-of .before .before .before in
     subst (λ z. Put (start .args .out .now) 0 z (at-put-run2 .put-run2 .last .0) (at-put-run2 .put-run2 .result))
-    (finished-text (at-read-sizes .read-sizes .result .atoms) (at-bound-of .bound-of .result) (at-run .run .last .1 .1 .0) (at-run .run .result) _ (at-c2 .c2 .given .1) ∙ ran-sheet (at-run .run .result) (at-run .run .ensures) (length-replicate {A = ℕ} 2048 0) (length-replicate {A = ℕ} 32768 0) (at-read-sizes .read-sizes .result) (at-read-sizes .read-sizes .ensures) (at-bound-of .bound-of .ensures))
+    (finished-text (at-sizes-of .sizes-of .result .atoms) (at-bound-of .bound-of .result) (at-run .run .last .1 .1 .1 .0) (at-run .run .result) _ (at-c2 .c2 .given .1) ∙ ran-sheet (at-run .run .result) (length-replicate {A = ℕ} 2048 0) (length-replicate {A = ℕ} 32768 0) (start .args .table .now) (at-run .run .ensures) (at-sizes-of .sizes-of .result) (at-sizes-of .sizes-of .ensures) (at-bound-of .bound-of .ensures))
     (at-put-run2 .put-run2 .ensures)
 
 pub put-sheet-spec : {M : Type 1} → statement M

@@ -14,10 +14,10 @@ use Rattle.table.proofs.body.entries_below.Statement.{statement}
 use Rattle.table.proofs.body.entries_below.Tie as tie
 
 abbrev Inv-loop : tie.InvT-loop
-Inv-loop table s r end n₀ i₀ n i = (i ≤ end) × (n ≡ countBelow i (λ j. ltb (entryAt table s j .rule) r))
+Inv-loop layout s r end n₀ i₀ n i = (i ≤ end) × (n ≡ countBelow i (λ j. ltb (entryAt layout s j .rule) r))
 
 abbrev μ-loop : tie.MeasureT-loop
-μ-loop table s r end n₀ i₀ n i = end - i
+μ-loop layout s r end n₀ i₀ n i = end - i
 
 loop-holds : tie.Need-loop-holds Inv-loop μ-loop
 unfolding total

@@ -11,10 +11,10 @@ use Rattle.table.proofs.cycle.count_stronger.Statement.{statement}
 use Rattle.table.proofs.cycle.count_stronger.Tie as tie
 
 abbrev Inv-loop : tie.InvT-loop
-Inv-loop table s degree₀ n i₀ degree i = (i ≤ n) × (length degree ≡ 1024) × Tally (λ k. pairAt table s k .weaker) degree i
+Inv-loop layout s degree₀ n i₀ degree i = (i ≤ n) × (length degree ≡ 1024) × Tally (λ k. pairAt layout s k .weaker) degree i
 
 abbrev μ-loop : tie.MeasureT-loop
-μ-loop table s degree₀ n i₀ degree i = n - i
+μ-loop layout s degree₀ n i₀ degree i = n - i
 
 small : (c : tie.After-slice-known2 Inv-loop μ-loop) → c .before .before .pair-within .result .weaker < 1024
 small c = weak-small _ _ (c .before .before .before .before .before .before .before .before .pre .0) _ _ (c .before .before .before .loop-test .taken) (c .before .before .pair-within .ensures)

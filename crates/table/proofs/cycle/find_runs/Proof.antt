@@ -11,17 +11,17 @@ use Rattle.table.proofs.cycle.find_runs.Statement.{statement}
 use Rattle.table.proofs.cycle.find_runs.Tie as tie
 
 abbrev Inv-loop : tie.InvT-loop
-Inv-loop table s first₀ i₀ first i = (i ≤ s .pairs) × (length first ≡ 1024) × RunsFrom (theoryIn table s) first i
+Inv-loop layout s first₀ i₀ first i = (i ≤ s .pairs) × (length first ≡ 1024) × RunsFrom (theoryIn layout s) first i
 
 abbrev μ-loop : tie.MeasureT-loop
-μ-loop table s first₀ i₀ first i = i
+μ-loop layout s first₀ i₀ first i = i
 
 small : (c : tie.After-struct-known Inv-loop μ-loop) → c .before .pair-within .result .stronger < 1024
 small c = strong-small _ _ (c .before .before .before .before .before .before .pre .0) (c .before .before .before .loop .i - 1) _ (omega arith) (c .before .pair-within .ensures)
 
 loop-holds : tie.Need-loop-holds Inv-loop μ-loop
 unfolding theoryIn
-loop-holds c = (omega arith, c .before .before .pre .1, runs-none (theoryIn (c .before .before .args .table .now) (c .before .before .args .s)) _ _ (omega arith))
+loop-holds c = (omega arith, c .before .before .pre .1, runs-none (theoryIn (c .before .before .args .layout .now) (c .before .before .args .s)) _ _ (omega arith))
 
 slice-write-first : tie.Need-slice-write-first Inv-loop μ-loop
 slice-write-first c = omega (arith, small c)

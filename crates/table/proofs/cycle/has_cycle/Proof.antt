@@ -10,7 +10,7 @@ use Rattle.table.proofs.Pairs.{ordered, table-start, table-end}
 use Rattle.table.proofs.cycle.has_cycle.Statement.{statement}
 use Rattle.table.proofs.cycle.has_cycle.Tie as tie
 
-in-order : (c : tie.Start) → PairsInOrder (theoryIn (c .args .table .now) (c .args .s))
+in-order : (c : tie.Start) → PairsInOrder (theoryIn (c .args .layout .now) (c .args .s))
 in-order c = ordered _ _ (c .pre .0) (c .pre .1) (c .pre .2)
 
 small : (c : tie.Start) → c .args .s .rules ≤ 1024

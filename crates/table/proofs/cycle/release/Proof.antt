@@ -11,10 +11,10 @@ use Rattle.table.proofs.cycle.release.Statement.{statement}
 use Rattle.table.proofs.cycle.release.Tie as tie
 
 abbrev Inv-loop : tie.InvT-loop
-Inv-loop table s first degree₀ queue₀ next end n r last₀ i₀ degree queue last i = (getD first (getD queue₀ next 0) 0 ≤ i) × Removing (theoryIn table s) queue₀ next degree queue last i
+Inv-loop layout s first degree₀ queue₀ next end n r last₀ i₀ degree queue last i = (getD first (getD queue₀ next 0) 0 ≤ i) × Removing (theoryIn layout s) queue₀ next degree queue last i
 
 abbrev μ-loop : tie.MeasureT-loop
-μ-loop table s first degree₀ queue₀ next end n r last₀ i₀ degree queue last i = n - i
+μ-loop layout s first degree₀ queue₀ next end n r last₀ i₀ degree queue last i = n - i
 
 small : (c : tie.After-wide Inv-loop μ-loop) → c .wide .result < 1024
 small c =
@@ -25,11 +25,11 @@ small c =
 within : (c : tie.At-loop Inv-loop μ-loop) → c .before .before .before .before .before .before .before .before .before .before .args .next < length (c .before .before .before .before .before .before .before .before .before .before .args .queue .now)
 within c = omega (arith, c .before .before .before .before .before .before .before .before .before .before .pre .1)
 
-below : (c : tie.Else1 Inv-loop μ-loop) → c .before .before .before .before .loop .i < theoryIn (c .before .before .before .before .before .before .before .before .before .before .before .before .before .before .args .table .now) (c .before .before .before .before .before .before .before .before .before .before .before .before .before .before .args .s) .pairs
+below : (c : tie.Else1 Inv-loop μ-loop) → c .before .before .before .before .loop .i < theoryIn (c .before .before .before .before .before .before .before .before .before .before .before .before .before .before .args .layout .now) (c .before .before .before .before .before .before .before .before .before .before .before .before .before .before .args .s) .pairs
 unfolding theoryIn
 below c = c .before .before .before .loop-test .taken
 
-of-rule : (c : tie.Else1 Inv-loop μ-loop) → theoryIn (c .before .before .before .before .before .before .before .before .before .before .before .before .before .before .args .table .now) (c .before .before .before .before .before .before .before .before .before .before .before .before .before .before .args .s) .pair (c .before .before .before .before .loop .i) .stronger ≡ getD (c .before .before .before .before .before .before .before .before .before .before .before .before .before .before .args .queue .now) (c .before .before .before .before .before .before .before .before .before .before .before .before .before .before .args .next) 0
+of-rule : (c : tie.Else1 Inv-loop μ-loop) → theoryIn (c .before .before .before .before .before .before .before .before .before .before .before .before .before .before .args .layout .now) (c .before .before .before .before .before .before .before .before .before .before .before .before .before .before .args .s) .pair (c .before .before .before .before .loop .i) .stronger ≡ getD (c .before .before .before .before .before .before .before .before .before .before .before .before .before .before .args .queue .now) (c .before .before .before .before .before .before .before .before .before .before .before .before .before .before .args .next) 0
 of-rule c = sym (strong-read _ _ _ _ (c .before .before .pair-within .ensures)) ∙ c .if1 .left
 
 room : (c : tie.Else1 Inv-loop μ-loop) → c .before .before .before .before .loop .last < 1024

@@ -10,10 +10,10 @@ use Rattle.table.proofs.cycle.released.Statement.{statement}
 use Rattle.table.proofs.cycle.released.Tie as tie
 
 abbrev Inv-loop : tie.InvT-loop
-Inv-loop table s first degree₀ queue₀ start end₀ next₀ degree queue end next = (next ≤ end) × (end ≤ 1024) × (length degree ≡ 1024) × (length queue ≡ 1024) × Reached (theoryIn table s) next end degree queue
+Inv-loop layout s first degree₀ queue₀ start end₀ next₀ degree queue end next = (next ≤ end) × (end ≤ 1024) × (length degree ≡ 1024) × (length queue ≡ 1024) × Reached (theoryIn layout s) next end degree queue
 
 abbrev μ-loop : tie.MeasureT-loop
-μ-loop table s first degree₀ queue₀ start end₀ next₀ degree queue end next = 1024 - next
+μ-loop layout s first degree₀ queue₀ start end₀ next₀ degree queue end next = 1024 - next
 
 returns : tie.Need-returns Inv-loop μ-loop
 returns c = (c .before .loop .inv .1, queued-all _ _ _ _ _ _ (c .before .loop .inv .0) (c .loop-test .left) (c .before .loop .inv .4))

@@ -9,8 +9,8 @@ returns : tie.Need-returns
 returns c =
     let at-if1 = c .before .before in let start = at-if1 .before .before .before in
     let args = start .args in (
-      (c .words-within .ensures .0) ∙ sym (left-in (args .table .now) (args .from) (args .n) (args .i) (at-if1 .if1 .taken)),
-      (c .words-within .ensures .1) ∙ sym (right-in (args .table .now) (args .s) (args .from) (args .n) (args .i) (at-if1 .if1 .taken)),
+      (c .words-within .ensures .0) ∙ sym (left-in (args .layout .now) (args .from) (args .n) (args .i) (at-if1 .if1 .taken)),
+      (c .words-within .ensures .1) ∙ sym (right-in (args .layout .now) (args .s) (args .from) (args .n) (args .i) (at-if1 .if1 .taken)),
     )
 
 pub both-words-spec : {M : Type 1} → statement M

@@ -9,7 +9,7 @@ use Rattle.table.proofs.format.pair_within.Tie as tie
 returns : tie.Need-returns
 returns c =
     let start = c .before .before .before .before .before .before in let pre = start .pre in let args = start .args in
-    λ k. record { stronger = ((c .pair-of .ensures .0) ∙ (c .before .words-within .ensures .0) ∙ sym (left-in (args .table .now) (pairsFrom (args .s)) ((args .s) .pairs) (args .i) (pre .0))) k; weaker = ((c .pair-of .ensures .1) ∙ (c .before .words-within .ensures .1) ∙ sym (right-in (args .table .now) (args .s) (pairsFrom (args .s)) ((args .s) .pairs) (args .i) (pre .0))) k }
+    λ k. record { stronger = ((c .pair-of .ensures .0) ∙ (c .before .words-within .ensures .0) ∙ sym (left-in (args .layout .now) (pairsFrom (args .s)) ((args .s) .pairs) (args .i) (pre .0))) k; weaker = ((c .pair-of .ensures .1) ∙ (c .before .words-within .ensures .1) ∙ sym (right-in (args .layout .now) (args .s) (pairsFrom (args .s)) ((args .s) .pairs) (args .i) (pre .0))) k }
 
 pub pair-within-spec : {M : Type 1} → statement M
 pair-within-spec =

@@ -7,7 +7,7 @@ use Rattle.table.proofs.format.words_within.Tie as tie
 returns : tie.Need-returns
 returns c =
     let start = c .before .before .before .before in
-    ((c .before .word-within .ensures), right-at (start .args .table .now) (start .args .s) (start .args .j) _ _ (c .before .before .span .ensures) (c .word-within2 .ensures))
+    ((c .before .word-within .ensures), right-at (start .args .layout .now) (start .args .s) (start .args .j) _ _ (c .before .before .span .ensures) (c .word-within2 .ensures))
 
 pub words-within-spec : {M : Type 1} → statement M
 words-within-spec =

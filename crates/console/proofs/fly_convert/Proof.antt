@@ -1,0 +1,25 @@
+-- `console::fly_convert` meets its contract. Assumes nothing.
+use Rattle.console.proofs.Telling.{converted-known, converted-unknown}
+use borrow.Author.Needs.{needs}
+use Rattle.console.proofs.fly_convert.Statement.{statement}
+use Rattle.console.proofs.fly_convert.Tie as tie
+
+returns : tie.Need-returns
+returns c =
+    let at-convert = c .before .before .before in let at-e = at-convert .before .before .before in let at-told = at-e .before .before in
+    let args = at-told .before .before .before .args in
+    converted-known (at-told .told-by .result) (args .edition) (at-told .told-by .ensures) (args .table .now) _ (at-e .e .given .1) (args .out .now) _ _ _
+    (c .numbers .ensures) (at-convert .convert .ensures)
+
+returns-2 : tie.Need-returns-2
+returns-2 c =
+    let at-match = c .before .before in let at-told = at-match .before in let args = at-told .before .before .before .args in
+    converted-unknown (at-told .told-by .result) (args .edition) (at-told .told-by .ensures) (args .table .now) (at-match .match .keys2) (args .out .now) _
+    (c .numbers2 .ensures)
+
+pub fly-convert-spec : {M : Type 1} → statement M
+fly-convert-spec =
+    tie.close
+    (tie.spec
+    (λ c κs. search needs) (λ c. search needs) (λ c κs. search needs) (λ c κs. search needs) (λ c. search needs) (λ c κs. search needs)
+    (λ c. search needs) returns returns-2)

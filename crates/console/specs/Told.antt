@@ -1,0 +1,42 @@
+-- Document 02, S-5: "each call is told the edition of each of its tables". In C it is told by its number, and what each call hands over is
+-- that of the edition. Any other number is refused by 1, whatever the table, and writes nothing.
+use Prim.Native.Nat.{ℕ, zero, suc}
+use mathlib.Core.Path.{_≡_}
+use mathlib.Core.List.{List}
+use Rattle.table.specs.declared.edition.Edition.the-variants.{Old, Two}
+use Rattle.table.specs.declared.judge.Refusal.the-variants.{Truncated}
+use Rattle.table.specs.Format.{theoryOf}
+use Rattle.table.specs.Refusals.{numberOf, judgementOf}
+use Rattle.engine.specs.declared.answer.Numbers.{Numbers}
+use Rattle.engine.specs.Answers as run
+use Rattle.engine.specs.Answers.{Ran}
+use Rattle.standing.specs.declared.answer.StandingNumbers.{StandingNumbers}
+use Rattle.standing.specs.Answers as standing
+use Rattle.standing.specs.Answers.{standingOf}
+use Rattle.convert.specs.declared.answer.WrittenNumbers.{WrittenNumbers}
+use Rattle.convert.specs.Answers as written
+use Rattle.convert.specs.Conversion.{Converted}
+use Rattle.console.specs.declared.told.Told.{Told}
+use Rattle.console.specs.declared.told.Told.the-variants.{Known, Unknown}
+
+-- 1 the old layout, 2 edition two (proofs/Telling.antt: `told-edition`)
+unfoldable pub toldBy : ℕ → Told
+toldBy zero = Unknown
+toldBy (suc zero) = Known Old
+toldBy (suc (suc zero)) = Known Two
+toldBy (suc (suc (suc n))) = Unknown
+
+-- a run
+unfoldable pub RanTold : Told → List ℕ → ℕ → List ℕ → List ℕ → List ℕ → List ℕ → Numbers → Type 0
+RanTold (Known e) b budget log log′ scratch scratch′ n = Ran (judgementOf e b) (theoryOf e b) budget log log′ scratch scratch′ n
+RanTold Unknown b budget log log′ scratch scratch′ n = (n ≡ run.refusalNumbers (numberOf Truncated)) × (log′ ≡ log) × (scratch′ ≡ scratch)
+
+-- how a rule stands
+unfoldable pub standingTold : Told → List ℕ → ℕ → List ℕ → StandingNumbers
+standingTold (Known e) b r log = standingOf e b r log
+standingTold Unknown b r log = standing.refusalNumbers (numberOf Truncated)
+
+-- a conversion
+unfoldable pub ConvertedTold : Told → List ℕ → List ℕ → List ℕ → WrittenNumbers → Type 0
+ConvertedTold (Known e) b out out′ n = Converted e b out out′ n
+ConvertedTold Unknown b out out′ n = (n ≡ written.refusalNumbers (numberOf Truncated)) × (out′ ≡ out)

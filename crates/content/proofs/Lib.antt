@@ -1,0 +1,3 @@
+pub mod Contents
+pub mod Files
+pub mod Origins
