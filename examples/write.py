@@ -65,7 +65,7 @@ EXAMPLES = {
         [(1, 0)],
         "Rules 0, 2, 4 and 5 are the tour's, rules 1 and 3 the house's. On bar 7 the house's rule is over the tour's: hold. On bar 8\n"
         "nobody said whose rule is stronger: split. Bar 9 rests on the follow spot and the follow spot on bar 9; nothing proves\n"
-        "either, and nothing refutes either: open. The file house-and-tour.two is the same table in edition two, which says whose each rule is.",
+        "either, and nothing refutes either: open.",
     ),
     "limit-switch": (
         "A limit switch typed as up and as not up (document 02, S-1)",
@@ -126,7 +126,8 @@ def files():
         if name in ORIGINS:
             two = words(atoms, facts, rules, pairs, ORIGINS[name])
             yield name + ".two", b"\2" + b"".join(w.to_bytes(2, "little") for w in two)
-        yield name + ".txt", text(title, atoms, facts, rules, pairs, why).encode()
+        beside = "\n%s.two is the same table in edition two, which says whose each rule is.\n" % name if name in ORIGINS else ""
+        yield name + ".txt", (text(title, atoms, facts, rules, pairs, why) + beside).encode()
 
 
 def write(name, content):
