@@ -68,7 +68,7 @@ static char limits_sheet[FLY_SHEET + 1];
 static const table LIMITS = {"every size at its limit", FLY_OLD, limits_bytes, sizeof limits_bytes, limits_log, limits_sheet};
 
 /* in edition two: without origins, and with all of them */
-static uint8_t limits_two[1 + FLY_MAX_BYTES], limits_origins[1 + FLY_MAX_BYTES];
+static uint8_t limits_two[FLY_MAX_TWO], limits_origins[FLY_MAX_TWO];
 static const table LIMITS_TWO = {"every size at its limit in edition two", FLY_TWO, limits_two, sizeof limits_two, limits_log,
                                  "refused 3\n"};
 static const table LIMITS_ORIGINS = {"every size at its limit, with origins", FLY_TWO, limits_origins, sizeof limits_origins, limits_log,
@@ -240,7 +240,7 @@ static void refuses(const table *t, uint32_t number) {
     runs(t, 19, 0, 0, (fly_answer){number, 0, 0, 0, 0});
     for (size_t i = 0; i < 4; i++) stands(t, NUMBERS[i], LOG_1, 8, (fly_standing){number, 0});
     converts(t, 0, number, NULL);
-    converts(t, FLY_MAX_BYTES + 1, number, NULL);
+    converts(t, FLY_MAX_TWO, number, NULL);
 }
 
 static void prints(const table *t) {
@@ -430,7 +430,7 @@ static void *stands_call(void *call) {
 }
 
 static void *convert_call(void *call) {
-    static uint8_t out[FLY_MAX_BYTES + 1];
+    static uint8_t out[FLY_MAX_TWO];
     const one_call *c = call;
     CHECK(fly_convert(c->of->bytes, c->of->n, c->of->edition, out, c->length).refused == c->refused);
     return call;
@@ -483,7 +483,7 @@ static void stack_use(void) {
                                          {&LIMITS, RULES, FLY_LOG, FLY_OUT_OF_RANGE},
                                          {&LIMITS_ORIGINS, 511, FLY_LOG, 0}};
     static const one_call CONVERSIONS[] = {{&CASE_1, 0, 31, 0},
-                                           {&LIMITS, 0, FLY_MAX_BYTES + 1, 0},
+                                           {&LIMITS, 0, FLY_MAX_TWO, 0},
                                            {&LIMITS, 0, FLY_MAX_BYTES, FLY_SHORT_LOG},
                                            {&LIMITS_TWO, 0, FLY_MAX_BYTES, 0},
                                            {&LIMITS_ORIGINS, 0, FLY_MAX_BYTES, FLY_HAS_ORIGIN}};
