@@ -67,7 +67,7 @@ pub record Wrote (j : Judgement) (new out out′ : List ℕ) (a : Written) : Typ
   pub output : out′ ≡ outputAfter j new out
 
 -- A file that says what a table says, in the other edition and with origin 0: it is accepted with the same sizes, it is the only one, and
--- converted back it is the table.
+-- converted back it is the table. (In the old layout every accepted file says origin 0: `old-origins` in content's proofs/Origins.antt.)
 pub record Conversion (e : Edition) (b : List ℕ) (s : Sizes) (new : List ℕ) : Type 0 where
   pub accepted : judgementOf (other e) new ≡ judgement.Accepted s
   pub content : SameContent (theoryOf e b) (theoryOf (other e) new)
