@@ -16,6 +16,7 @@ pub mod Candidates
 pub mod Readings
 pub mod Bodies
 pub mod Standing
+pub mod Verdicts
 pub mod Costs
 pub mod Plain
 pub mod Pairs

@@ -1,7 +1,8 @@
 -- Laws of the tests, quantifiers and sums of specs/Tests.antt. Assumes nothing.
-use Prim.Native.Nat.{ℕ, zero, suc, _≤_, _<_}
+use Prim.Native.Nat.{ℕ, zero, suc, _+_, _≤_, _<_}
 use native.Mathlib.Nat.{le-refl, le-step, not-suc-le-zero, zero-lt-suc, le-of-suc-le-suc, lt-of-not-le}
-use mathlib.Core.Path.{_≡_, refl, sym, _∙_, ap, subst}
+use native.Mathlib.Numerals.{add-one}
+use mathlib.Core.Path.{_≡_, refl, sym, _∙_, ap, ap₂, subst}
 use mathlib.Core.Logic.{_⊎_, inl, inr, ⊎-elim}
 use mathlib.Core.Bool.{Bool, true, false, cond, not}
 use mathlib.Core.List.{List, [], _∷_}
@@ -142,6 +143,17 @@ some-found n p k h t = sym (true-of _ (some-intro n p k h t))
 
 pub some-none : (n : ℕ) (p : ℕ → Bool) → ((k : ℕ) → k < n → T (p k) → ⊥) → false ≡ some n p
 some-none n p f = sym (false-of _ (λ t. let (k, h, u) = some-elim n p t in f k h u))
+
+-- one number more
+pub some-next : (p : ℕ → Bool) (i : ℕ) {a x y : Bool} → a ≡ some i p → x ≡ p i → y ≡ a or x → y ≡ some (i + 1) p
+unfolding some
+some-next p i e f g = g ∙ ap₂ _or_ e f ∙ sym (ap (λ k. some k p) (add-one i))
+
+-- two tests that agree below n
+pub some-same : (n : ℕ) (p q : ℕ → Bool) → ((k : ℕ) → k < n → p k ≡ q k) → some n p ≡ some n q
+unfolding some
+some-same zero p q e = refl
+some-same (suc n) p q e = ap₂ _or_ (some-same n p q (λ k h. e k (le-step h))) (e n (le-refl (suc n)))
 
 pub everyOf-intro : (l : List ℕ) (p : ℕ → Bool) → ((x : ℕ) → T (member x l) → T (p x)) → T (everyOf l p)
 unfolding everyOf someOf

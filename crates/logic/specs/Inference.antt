@@ -53,13 +53,15 @@ module _ (d : Theory) (holds : ℕ → ℕ → Bool) where
   abbrev pub uncountered : ℕ → ℕ → Bool
   uncountered q s = allHave +∂ s and every (d .rules) (λ t. supporter d t q implies oneHas −∂ t or isnt (superior d t s))
 
-  -- "−∂q: −Δq is held, and one of: each supporter has an antecedent with −∂ held; +Δ of the complement is held; some attacker"
-  -- is uncountered.
+  -- "each supporter has an antecedent with −∂ held": a literal without supporters is unsupported
+  abbrev pub unsupported : ℕ → Bool
+  unsupported q = every (d .rules) (λ r. supporter d r q implies oneHas −∂ r)
+
+  -- "−∂q: −Δq is held, and one of:" it is unsupported; "+Δ of the complement is held; some attacker" is uncountered.
   abbrev pub notDefeasibly : ℕ → Bool
   notDefeasibly q =
       holds q −Δ
-      and (every (d .rules) (λ r. supporter d r q implies oneHas −∂ r) or holds (complement q) +Δ
-      or some (d .rules) (λ s. attacker d s q and uncountered q s))
+      and (unsupported q or holds (complement q) +Δ or some (d .rules) (λ s. attacker d s q and uncountered q s))
 
   -- the inference rule of each tag; there are no tags past 3
   unfoldable pub follows : ℕ → ℕ → Bool

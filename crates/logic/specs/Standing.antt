@@ -1,6 +1,6 @@
 -- Document 02, S-3: how a rule stands over what is held, by a family f of tags: 2f is its +, and 2f + 1 its −. ∂ is family 1.
 use Prim.Native.Nat.{ℕ, _+_, _*_}
-use mathlib.Core.Bool.{Bool, cond}
+use mathlib.Core.Bool.{Bool, true, false, cond}
 use lib.Dec.{T}
 use Rattle.logic.specs.Theory.{Theory}
 use Rattle.logic.specs.Inference.{allHave, oneHas}
@@ -20,6 +20,11 @@ module _ (d : Theory) where
   -- "firing and out never both hold"
   abbrev pub NeverBoth : ℕ → (ℕ → ℕ → Bool) → Type 0
   NeverBoth f holds = (r : ℕ) → T (allHave d holds (2 * f) r) → T (oneHas d holds (2 * f + 1) r) → ⊥
+
+unfoldable pub isOut : Standing → Bool
+isOut firing = false
+isOut out = true
+isOut waiting = false
 
 -- the numbers of the three answers
 unfoldable pub standingNumber : Standing → ℕ

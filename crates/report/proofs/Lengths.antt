@@ -7,17 +7,26 @@ use mathlib.Core.Path.{_≡_, refl, sym, ap, ap₂, subst}
 use mathlib.Core.Logic.{⊎-elim}
 use mathlib.Core.List.{List, _++_}
 use lib.ListN.{length, take, length-append}
+use Rattle.logic.specs.Tests.{isnt}
+use Rattle.logic.specs.Theory.{Theory}
+use Rattle.logic.specs.Inference.{unsupported}
 use Rattle.logic.specs.System.{held}
 use Rattle.logic.specs.Reading.{taggedBy}
-use Rattle.logic.specs.Verdict.{Verdict, clash, go, hold, split, «open», verdict}
+use Rattle.logic.specs.Verdict.{Verdict, clash, go, hold, idle, split, «open», verdictBy}
 use Rattle.logic.proofs.Tests.{at-most}
 use Rattle.report.specs.Text.{decimal, wordOf, atomsWord, spentWord, ofWord, refusedWord, space, newline}
 use Rattle.report.specs.Sheet.{atomLine, atomLines, countLine, spentLine, runSheet, refusedSheet, verdictIn}
+use Rattle.table.specs.declared.format.Sizes.{Sizes}
+use Rattle.table.specs.Format.{theoryIn}
+use Rattle.table.proofs.Legal.{limited}
+use Rattle.engine.specs.declared.answer.Counts.{Counts}
 use Rattle.standing.specs.Marks.{marked, Marked}
+use Rattle.standing.specs.Answers.{standingBy}
 use Rattle.standing.proofs.Marking.{marked-held}
-use Rattle.report.specs.Printing.{Put}
+use Rattle.report.specs.Printing.{Put, Supported, FitsRun}
 use Rattle.report.proofs.Decimal.{length-1, length-2, length-3, length-5}
 use Rattle.report.proofs.Puts.{room-left, put-nothing, put-put}
+use Rattle.report.proofs.Supporters.{unmarked-unsupported}
 use Rattle.report.proofs.Verdicts.{verdict-same}
 
 word-length : (v : Verdict) → length (wordOf v) ≤ 5
@@ -25,6 +34,7 @@ unfolding wordOf
 word-length clash = omega arith
 word-length go = omega arith
 word-length hold = omega arith
+word-length idle = omega arith
 word-length split = omega arith
 word-length «open» = omega arith
 
@@ -69,10 +79,10 @@ count-length atoms h = omega (arith, length-3 atoms (omega arith), count-parts a
 pub spent-length : (spent most : ℕ) → spent < 100000 → most < 100000 → length (spentLine spent most) ≤ 21
 spent-length spent most h k = omega (arith, length-5 spent h, length-5 most k, spent-parts spent most)
 
-pub run-length : (atoms : ℕ) (log : List ℕ) (spent most : ℕ) → atoms ≤ 512 → spent < 100000 → most < 100000 → length (runSheet atoms log spent most) ≤ 5041
+pub run-length : (d : Theory) (log : List ℕ) (spent most : ℕ) → d .atoms ≤ 512 → spent < 100000 → most < 100000 → length (runSheet d log spent most) ≤ 5041
 unfolding runSheet
-run-length atoms log spent most a b c =
-    omega (arith, count-length atoms a, atoms-length (verdictIn log) atoms a, spent-length spent most b c, length-append (countLine atoms ++ atomLines (verdictIn log) atoms) (spentLine spent most), length-append (countLine atoms) (atomLines (verdictIn log) atoms))
+run-length d log spent most a b c =
+    omega (arith, count-length (d .atoms) a, atoms-length (verdictIn d log) (d .atoms) a, spent-length spent most b c, length-append (countLine (d .atoms) ++ atomLines (verdictIn d log) (d .atoms)) (spentLine spent most), length-append (countLine (d .atoms)) (atomLines (verdictIn d log) (d .atoms)))
 
 pub refused-length : (n : ℕ) → n < 100 → length (refusedSheet n) ≤ 11
 refused-length n h = omega (arith, length-2 n h, refused-parts n)
@@ -112,17 +122,27 @@ lines-next f a {out₀} {out} {out′} {from} {at} {r} {v} h k l p e q =
 pub lines-end : (f : ℕ → Verdict) {a n : ℕ} {out₀ out : List ℕ} {from at : ℕ} → a ≤ n → n ≤ a → Put out₀ from (atomLines f a) out at → Put out₀ from (atomLines f n) out at
 lines-end f {a} {n} {out₀} {out} {from} {at} h k p = subst (λ z. Put out₀ from (atomLines f z) out at) (le-antisymm h k) p
 
--- the three parts of a run's sheet
-pub put-run-parts : (marks log : List ℕ) (atoms lines spent most : ℕ) {out out₁ out₂ out₃ : List ℕ} {r₁ r₂ r₃ : ℕ} → atoms ≤ 512 → spent < 100000 → most < 100000 → length out ≡ 5041
-    → Marked (take lines log) marks → Put out 0 (countLine atoms) out₁ r₁ → Put out₁ r₁ (atomLines (verdict (taggedBy 4 (marked marks))) atoms) out₂ r₂
-    → Put out₂ r₂ (spentLine spent most) out₃ r₃ → Put out 0 (runSheet atoms (take lines log) spent most) out₃ r₃
-unfolding runSheet
-put-run-parts marks log atoms lines spent most {out} {out₁} {out₂} {out₃} {r₁} {r₂} {r₃} a b c l m p q r =
-    put-put room (put-put (room-left 0 (length out) (countLine atoms ++ atomLines (verdictIn (take lines log)) atoms) (spentLine spent most) room) p (subst (λ z. Put out₁ r₁ z out₂ r₂) same q)) r
-  where
-    room : 0 + length (runSheet atoms (take lines log) spent most) ≤ length out
-    room = omega (arith, run-length atoms (take lines log) spent most a b c, l)
+-- the verdicts by the marks of a log and of the literals that have a supporter which is not out
+abbrev pub verdictsBy : List ℕ → List ℕ → ℕ → Verdict
+verdictsBy marks supported = verdictBy (taggedBy 4 (marked marks)) (λ q. isnt (marked supported q))
 
-    same : atomLines (verdict (taggedBy 4 (marked marks))) atoms ≡ atomLines (verdictIn (take lines log)) atoms
-    same = atoms-same (verdict (taggedBy 4 (marked marks))) (verdictIn (take lines log)) atoms
-        (λ n h. verdict-same (marked marks) (held (take lines log)) n (λ x k. marked-held (take lines log) marks m x (omega arith)))
+-- the three parts of a run's sheet
+pub put-run-parts : (b : List ℕ) (s : Sizes) (most : ℕ) (log : List ℕ) (c : Counts) (marks supported : List ℕ) {out out₁ out₂ out₃ : List ℕ} {r₁ r₂ r₃ : ℕ} → FitsRun b s most log c
+    → length out ≡ 5041 → Marked (take (c .lines) log) marks → Supported (theoryIn b s) (λ r. standingBy b s r marks) supported
+    → Put out 0 (countLine (s .atoms)) out₁ r₁ → Put out₁ r₁ (atomLines (verdictsBy marks supported) (s .atoms)) out₂ r₂
+    → Put out₂ r₂ (spentLine (c .spent) most) out₃ r₃ → Put out 0 (runSheet (theoryIn b s) (take (c .lines) log) (c .spent) most) out₃ r₃
+unfolding runSheet theoryIn
+put-run-parts b s most log c marks supported {out} {out₁} {out₂} {out₃} {r₁} {r₂} {r₃} f l m u p q r =
+    put-put room (put-put (room-left 0 (length out) (countLine (s .atoms) ++ atomLines (verdictIn (theoryIn b s) (take (c .lines) log)) (s .atoms)) (spentLine (c .spent) most) room) p (subst (λ z. Put out₁ r₁ z out₂ r₂) same q)) r
+  where
+    few : s .atoms ≤ 512
+    few = limited s (f .table .limits) .atoms
+
+    room : 0 + length (runSheet (theoryIn b s) (take (c .lines) log) (c .spent) most) ≤ length out
+    room = omega (arith, run-length (theoryIn b s) (take (c .lines) log) (c .spent) most few (f .spent) (f .most), l)
+
+    same : atomLines (verdictsBy marks supported) (s .atoms) ≡ atomLines (verdictIn (theoryIn b s) (take (c .lines) log)) (s .atoms)
+    same = atoms-same (verdictsBy marks supported) (verdictIn (theoryIn b s) (take (c .lines) log)) (s .atoms)
+        (λ n h. verdict-same (marked marks) (held (take (c .lines) log)) (λ q. isnt (marked supported q)) (unsupported (theoryIn b s) (taggedBy 4 (held (take (c .lines) log)))) n
+        (λ x k. marked-held (take (c .lines) log) marks m x (omega (arith, few)))
+        (λ x k. unmarked-unsupported b s (f .table) (take (c .lines) log) marks supported m (f .never) u x (omega (arith, few))))

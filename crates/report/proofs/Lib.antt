@@ -1,5 +1,6 @@
 pub mod Decimal
 pub mod Puts
+pub mod Supporters
 pub mod Verdicts
 pub mod Lengths
 pub mod Running

@@ -9,11 +9,15 @@ use lib.Dec.{T}
 use lib.ListN.{length, take, drop, replicate, length-append, length-replicate}
 use lib.Seq.{take-at, length-take-le}
 use Rattle.logic.specs.Theory.{Theory, entries, size}
+use Rattle.logic.specs.System.{held}
 use Rattle.logic.specs.Worklist.{logOf, lines}
-use Rattle.logic.specs.Plain.{plainSystem, bound}
+use Rattle.logic.specs.Reading.{taggedBy}
+use Rattle.logic.specs.Standing.{NeverBoth}
+use Rattle.logic.specs.Plain.{plain, plainSystem, bound}
 use Rattle.logic.specs.Demands.{Demands}
 use Rattle.logic.proofs.Tests.{cond-cases}
-use Rattle.logic.proofs.Plain.{plain-demands, plain-finishes}
+use Rattle.logic.proofs.Standing.{derivation-never}
+use Rattle.logic.proofs.Plain.{plain-demands, plain-finishes, plain-rules}
 use Rattle.table.specs.declared.format.Sizes.{Sizes}
 use Rattle.table.specs.declared.judge.Refusal.{Refusal}
 use Rattle.table.specs.declared.judge.Judgement.{Judgement}
@@ -62,7 +66,7 @@ module _ (b : List ℕ) (s : Sizes) (e : Legal b s) where
   sheet-short : length (sheetBy (judgement.Accepted s) (theoryIn b s)) ≤ 5041
   unfolding sheetBy theoryIn
   sheet-short =
-      run-length (s .atoms) (logOf (runOf (theoryIn b s) (budgetOf (theoryIn b s)))) (runOf (theoryIn b s) (budgetOf (theoryIn b s)) .spent) (budgetOf (theoryIn b s))
+      run-length (theoryIn b s) (logOf (runOf (theoryIn b s) (budgetOf (theoryIn b s)))) (runOf (theoryIn b s) (budgetOf (theoryIn b s)) .spent) (budgetOf (theoryIn b s))
       (omega (arith, few .atoms)) (omega (arith, run-demands .within, bound-small)) bound-small
 
   -- the run under the bound, and the log that it left
@@ -73,39 +77,46 @@ module _ (b : List ℕ) (s : Sizes) (e : Legal b s) where
         ap (take (lines (runOf (theoryIn b s) most))) w
         ∙ take-at (logOf (runOf (theoryIn b s) most)) (drop (lines (runOf (theoryIn b s) most)) log) (lines (runOf (theoryIn b s) most)) refl
 
-    run-fits : FitsRun (s .atoms) most log′ (countsIn (runOf (theoryIn b s) most))
+    run-fits : FitsRun b s most log′ (countsIn (runOf (theoryIn b s) most))
     run-fits =
         record {
-          atoms = few .atoms;
+          table = e;
           lines = omega (arith, ap length w, length-append (logOf (runOf (theoryIn b s) most)) (drop (lines (runOf (theoryIn b s) most)) log));
-          spent = omega (arith, plain-demands (theoryIn b s) (proper-read b s e) most .within, m, bound-of, bound-small);
+          never = subst (λ l. NeverBoth (theoryIn b s) 1 (taggedBy 4 (held l))) (sym whole) never;
+          spent = omega (arith, demands .within, m, bound-of, bound-small);
           most = omega (arith, m, bound-of, bound-small);
         }
+      where
+        demands : Demands (plainSystem (theoryIn b s)) (bound (theoryIn b s)) (5 * size (theoryIn b s)) most
+        demands = plain-demands (theoryIn b s) (proper-read b s e) most
 
-    run-sheet : runSheet (s .atoms) (take (lines (runOf (theoryIn b s) most)) log′) (runOf (theoryIn b s) most .spent) most ≡ sheetBy (judgement.Accepted s) (theoryIn b s)
-    unfolding sheetBy theoryIn
+        never : NeverBoth (theoryIn b s) 1 (taggedBy 4 (held (logOf (runOf (theoryIn b s) most))))
+        never = derivation-never plain plain-rules (theoryIn b s) (proper-read b s e) 1 (logOf (runOf (theoryIn b s) most)) (demands .isDerivation)
+
+    run-sheet : runSheet (theoryIn b s) (take (lines (runOf (theoryIn b s) most)) log′) (runOf (theoryIn b s) most .spent) most ≡ sheetBy (judgement.Accepted s) (theoryIn b s)
+    unfolding sheetBy
     run-sheet =
-        ap (λ l. runSheet (s .atoms) l (runOf (theoryIn b s) most .spent) most) whole
-        ∙ ap (λ k. runSheet (s .atoms) (logOf (runOf (theoryIn b s) k)) (runOf (theoryIn b s) k .spent) k) (m ∙ sym bound-of)
+        ap (λ l. runSheet (theoryIn b s) l (runOf (theoryIn b s) most .spent) most) whole
+        ∙ ap (λ k. runSheet (theoryIn b s) (logOf (runOf (theoryIn b s) k)) (runOf (theoryIn b s) k .spent) k) (m ∙ sym bound-of)
 
 -- the answer of a run with buffers that are long enough
 module _ {log log′ scratch scratch′ : List ℕ} (a : Answer) {most : ℕ} (k : length log ≡ 2048) (l : length scratch ≡ 32768) where
-  refused-sheet : (n : Refusal) (d : Theory) (atoms : ℕ) → Ran (judgement.Refused n) d most log log′ scratch scratch′ (numbersOf a)
-      → (sheetTo atoms most log′ a ≡ sheetBy (judgement.Refused n) d) × Fits atoms most log′ a
+  refused-sheet : (n : Refusal) (d : Theory) (b : List ℕ) (s : Sizes) → Ran (judgement.Refused n) d most log log′ scratch scratch′ (numbersOf a)
+      → (sheetTo d most log′ a ≡ sheetBy (judgement.Refused n) d) × Fits b s most log′ a
   unfolding answerTo sheetTo sheetBy Fits
-  refused-sheet n d atoms r =
-      subst (λ x. (sheetTo atoms most log′ x ≡ sheetBy (judgement.Refused n) d) × Fits atoms most log′ x) (sym same) (refl, tt)
+  refused-sheet n d b s r =
+      subst (λ x. (sheetTo d most log′ x ≡ sheetBy (judgement.Refused n) d) × Fits b s most log′ x) (sym same) (refl, tt)
     where
       same : a ≡ Refused n
       same = answer-is r ∙ ap (λ j. answerTo j (runOf d most)) (refused-table d most (length scratch) (length log) n)
 
   accepted-sheet : (b : List ℕ) (s : Sizes) → Legal b s → most ≡ 5 * s .atoms + s .facts + s .rules + 3 * s .entries + 3 * s .pairs
       → Ran (judgement.Accepted s) (theoryIn b s) most log log′ scratch scratch′ (numbersOf a)
-      → (sheetTo (s .atoms) most log′ a ≡ sheetBy (judgement.Accepted s) (theoryIn b s)) × Fits (s .atoms) most log′ a
+      → (sheetTo (theoryIn b s) most log′ a ≡ sheetBy (judgement.Accepted s) (theoryIn b s)) × Fits b s most log′ a
   unfolding answerTo logAfter sheetTo sheetBy Fits
   accepted-sheet b s e m r =
-      subst (λ x. (sheetTo (s .atoms) most log′ x ≡ sheetBy (judgement.Accepted s) (theoryIn b s)) × Fits (s .atoms) most log′ x) (sym same)
-      (cond-cases (λ x. (sheetTo (s .atoms) most log′ x ≡ sheetBy (judgement.Accepted s) (theoryIn b s)) × Fits (s .atoms) most log′ x)
+      subst (λ x. (sheetTo (theoryIn b s) most log′ x ≡ sheetBy (judgement.Accepted s) (theoryIn b s)) × Fits b s most log′ x) (sym same)
+      (cond-cases (λ x. (sheetTo (theoryIn b s) most log′ x ≡ sheetBy (judgement.Accepted s) (theoryIn b s)) × Fits b s most log′ x)
       (runOf (theoryIn b s) most .finished) (Finished (countsIn (runOf (theoryIn b s) most))) (Stopped (countsIn (runOf (theoryIn b s) most))) (λ _. both) (λ _. both))
     where
       room : callJudgement (judgement.Accepted s) (theoryIn b s) most (length scratch) (length log) ≡ judgement.Accepted s
@@ -117,19 +128,20 @@ module _ {log log′ scratch scratch′ : List ℕ} (a : Answer) {most : ℕ} (k
       written : log′ ≡ logOf (runOf (theoryIn b s) most) ++ drop (lines (runOf (theoryIn b s) most)) log
       written = r .written ∙ ap (λ j. logAfter j (runOf (theoryIn b s) most) log) room
 
-      both : (runSheet (s .atoms) (take (lines (runOf (theoryIn b s) most)) log′) (runOf (theoryIn b s) most .spent) most ≡ sheetBy (judgement.Accepted s) (theoryIn b s))
-          × FitsRun (s .atoms) most log′ (countsIn (runOf (theoryIn b s) most))
+      both : (runSheet (theoryIn b s) (take (lines (runOf (theoryIn b s) most)) log′) (runOf (theoryIn b s) most .spent) most ≡ sheetBy (judgement.Accepted s) (theoryIn b s))
+          × FitsRun b s most log′ (countsIn (runOf (theoryIn b s) most))
       both = (run-sheet b s e most m log log′ written, run-fits b s e most m log log′ written)
 
-  -- of a table in the old layout, with the sizes that were read
-  module _ (b : List ℕ) (r : Ran (judgementOf Old b) (theoryOf Old b) most log log′ scratch scratch′ (numbersOf a)) (s : Sizes) (z : s ≡ sizesOf (layoutOf Old b))
-      (m : most ≡ 5 * s .atoms + s .facts + s .rules + 3 * s .entries + 3 * s .pairs) where
-    by-judgement : (j : Judgement) → judgementOf Old b ≡ j → (sheetTo (s .atoms) most log′ a ≡ sheetBy j (theoryOf Old b)) × Fits (s .atoms) most log′ a
-    by-judgement (judgement.Refused n) e =
-        refused-sheet n (theoryOf Old b) (s .atoms) (subst (λ j. Ran j (theoryOf Old b) most log log′ scratch scratch′ (numbersOf a)) e r)
-    by-judgement (judgement.Accepted t) e =
-        subst (λ d. (sheetTo (s .atoms) most log′ a ≡ sheetBy (judgement.Accepted t) d) × Fits (s .atoms) most log′ a) (theory-read Old b t e)
-        (subst (λ x. (sheetTo (x .atoms) most log′ a ≡ sheetBy (judgement.Accepted t) (theoryIn (layoutOf Old b) t)) × Fits (x .atoms) most log′ a) (sym read)
+  -- of a table in the old layout
+  module _ (b : List ℕ) (r : Ran (judgementOf Old b) (theoryOf Old b) most log log′ scratch scratch′ (numbersOf a)) where
+    by-judgement : (s : Sizes) → s ≡ sizesOf (layoutOf Old b) → most ≡ 5 * s .atoms + s .facts + s .rules + 3 * s .entries + 3 * s .pairs → (j : Judgement) → judgementOf Old b ≡ j
+        → (sheetTo (theoryIn (layoutOf Old b) s) most log′ a ≡ sheetBy j (theoryOf Old b)) × Fits (layoutOf Old b) s most log′ a
+    by-judgement s z m (judgement.Refused n) e =
+        subst (λ d. (sheetTo d most log′ a ≡ sheetBy (judgement.Refused n) (theoryOf Old b)) × Fits (layoutOf Old b) s most log′ a) (ap (theoryIn (layoutOf Old b)) (sym z))
+        (refused-sheet n (theoryOf Old b) (layoutOf Old b) s (subst (λ j. Ran j (theoryOf Old b) most log log′ scratch scratch′ (numbersOf a)) e r))
+    by-judgement s z m (judgement.Accepted t) e =
+        subst (λ d. (sheetTo (theoryIn (layoutOf Old b) s) most log′ a ≡ sheetBy (judgement.Accepted t) d) × Fits (layoutOf Old b) s most log′ a) (theory-read Old b t e)
+        (subst (λ x. (sheetTo (theoryIn (layoutOf Old b) x) most log′ a ≡ sheetBy (judgement.Accepted t) (theoryIn (layoutOf Old b) t)) × Fits (layoutOf Old b) x most log′ a) (sym read)
         (accepted-sheet (layoutOf Old b) t (legal Old b t e) (subst (λ x. most ≡ 5 * x .atoms + x .facts + x .rules + 3 * x .entries + 3 * x .pairs) read m)
         (subst (λ j. Ran j (theoryIn (layoutOf Old b) t) most log log′ scratch scratch′ (numbersOf a)) e
         (subst (λ d. Ran (judgementOf Old b) d most log log′ scratch scratch′ (numbersOf a)) (sym (theory-read Old b t e)) r))))
@@ -137,11 +149,14 @@ module _ {log log′ scratch scratch′ : List ℕ} (a : Answer) {most : ℕ} (k
         read : s ≡ t
         read = z ∙ legal Old b t e .read
 
-    pub ran-sheet : sheetTo (s .atoms) most log′ a ≡ sheetOf b
-    ran-sheet = by-judgement (judgementOf Old b) refl .0
+    -- with the layout and the sizes that were read
+    module _ (old : List ℕ) (y : old ≡ layoutOf Old b) (s : Sizes) (z : s ≡ sizesOf (layoutOf Old b))
+        (m : most ≡ 5 * s .atoms + s .facts + s .rules + 3 * s .entries + 3 * s .pairs) where
+      pub ran-sheet : sheetTo (theoryIn old s) most log′ a ≡ sheetOf b
+      ran-sheet = ap (λ x. sheetTo (theoryIn x s) most log′ a) y ∙ by-judgement s z m (judgementOf Old b) refl .0
 
-    pub ran-fits : Fits (s .atoms) most log′ a
-    ran-fits = by-judgement (judgementOf Old b) refl .1
+      pub ran-fits : Fits old s most log′ a
+      ran-fits = subst (λ x. Fits x s most log′ a) (sym y) (by-judgement s z m (judgementOf Old b) refl .1)
 
 pub number-length : (n : Refusal) {k : ℕ} → k ≡ numberOf n → length (decimal k) ≤ 2
 number-length n {k} e = length-2 k (subst (λ z. z < 100) (sym e) (number-small n))
@@ -156,27 +171,28 @@ put-refused-parts n {out} {out₁} {out₂} {out₃} {k} {r₁} {r₂} {r₃} e 
     room = omega (arith, refused-parts k, number-length n e)
 
 -- the text of each answer
-module _ (atoms most : ℕ) (log : List ℕ) (a : Answer) where
-  pub refused-text : (n : Refusal) → a ≡ Refused n → refusedSheet (numberOf n) ≡ sheetTo atoms most log a
+module _ (d : Theory) (most : ℕ) (log : List ℕ) (a : Answer) where
+  pub refused-text : (n : Refusal) → a ≡ Refused n → refusedSheet (numberOf n) ≡ sheetTo d most log a
   unfolding sheetTo
-  refused-text n e = ap (sheetTo atoms most log) (sym e)
+  refused-text n e = ap (sheetTo d most log) (sym e)
 
-  pub stopped-text : (c : Counts) → a ≡ Stopped c → runSheet atoms (take (c .lines) log) (c .spent) most ≡ sheetTo atoms most log a
+  pub stopped-text : (c : Counts) → a ≡ Stopped c → runSheet d (take (c .lines) log) (c .spent) most ≡ sheetTo d most log a
   unfolding sheetTo
-  stopped-text c e = ap (sheetTo atoms most log) (sym e)
+  stopped-text c e = ap (sheetTo d most log) (sym e)
 
-  pub finished-text : (c : Counts) → a ≡ Finished c → runSheet atoms (take (c .lines) log) (c .spent) most ≡ sheetTo atoms most log a
+  pub finished-text : (c : Counts) → a ≡ Finished c → runSheet d (take (c .lines) log) (c .spent) most ≡ sheetTo d most log a
   unfolding sheetTo
-  finished-text c e = ap (sheetTo atoms most log) (sym e)
+  finished-text c e = ap (sheetTo d most log) (sym e)
 
-  -- and what each run keeps to
-  pub stopped-fits : (c : Counts) → a ≡ Stopped c → Fits atoms most log a → FitsRun atoms most log c
+-- and what each run keeps to
+module _ (b : List ℕ) (s : Sizes) (most : ℕ) (log : List ℕ) (a : Answer) where
+  pub stopped-fits : (c : Counts) → a ≡ Stopped c → Fits b s most log a → FitsRun b s most log c
   unfolding Fits
-  stopped-fits c e h = subst (Fits atoms most log) e h
+  stopped-fits c e h = subst (Fits b s most log) e h
 
-  pub finished-fits : (c : Counts) → a ≡ Finished c → Fits atoms most log a → FitsRun atoms most log c
+  pub finished-fits : (c : Counts) → a ≡ Finished c → Fits b s most log a → FitsRun b s most log c
   unfolding Fits
-  finished-fits c e h = subst (Fits atoms most log) e h
+  finished-fits c e h = subst (Fits b s most log) e h
 
 -- the longest sheet
 sheet-length : (b : List ℕ) (j : Judgement) → judgementOf Old b ≡ j → length (sheetBy j (theoryOf Old b)) ≤ 5041

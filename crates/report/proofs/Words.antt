@@ -7,18 +7,19 @@ use denote.Enum.Declared
 use Rattle.report.specs.Text.{meant, wordOf}
 use Rattle.report.specs.Printing.{Put}
 use Rattle.report.specs.declared.verdict.Verdict.{Verdict}
-use Rattle.report.specs.declared.verdict.Verdict.the-variants.{Clash, Go, Hold, Split, Open}
+use Rattle.report.specs.declared.verdict.Verdict.the-variants.{Clash, Go, Hold, Idle, Split, Open}
 use Rattle.report.proofs.verdict.Verdict.{the-type}
 
 -- the case of each tag
 unfoldable pub caseOf : ℕ → Verdict
-caseOf t = getD (Clash ∷ Go ∷ Hold ∷ Split ∷ Open ∷ []) t Open
+caseOf t = getD (Clash ∷ Go ∷ Hold ∷ Idle ∷ Split ∷ Open ∷ []) t Open
 
 of-tag : (v : Verdict) → caseOf (Declared.tagOf the-type v) ≡ v
 unfolding caseOf
 of-tag Clash = refl
 of-tag Go = refl
 of-tag Hold = refl
+of-tag Idle = refl
 of-tag Split = refl
 of-tag Open = refl
 

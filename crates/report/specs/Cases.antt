@@ -42,9 +42,9 @@ row t b l s n f d w p m v =
     record { table = t; budget = b; log = l; scratch = s; refused = n; finished = f; lines = d; worked = w; spent = p; most = m; verdicts = v }
 
 -- the verdicts by a log's lines; a refused table has none
-unfoldable pub verdictsOf : Judgement → List ℕ → List Verdict
-verdictsOf (Accepted s) lines = map (verdictIn lines) (upto (s .atoms))
-verdictsOf (Refused n) lines = []
+unfoldable pub verdictsOf : Judgement → Theory → List ℕ → List Verdict
+verdictsOf (Accepted s) d lines = map (verdictIn d lines) (upto (s .atoms))
+verdictsOf (Refused n) d lines = []
 
 -- the words of verdicts, each with a space after it
 unfoldable pub wordsOf : List Verdict → List ℕ
@@ -62,7 +62,7 @@ unfoldable pub givesBy : Row → Theory → Judgement → Bool
 givesBy r d j =
     sameNumbers r (numbersOf (answerTo j (runOf d (r .budget))))
     and sameList (logAfter j (runOf d (r .budget)) (replicate (r .log) 9)) (r .lines ++ replicate (r .log - length (r .lines)) 9)
-    and eqb (budgetOf d) (r .most) and sameList (wordsOf (verdictsOf j (r .lines))) (wordsOf (r .verdicts))
+    and eqb (budgetOf d) (r .most) and sameList (wordsOf (verdictsOf j d (r .lines))) (wordsOf (r .verdicts))
 
 unfoldable pub gives : Row → List ℕ → Bool
 gives r b = givesBy r (theoryOf Old b) (callJudgement (judgementOf Old b) (theoryOf Old b) (r .budget) (r .scratch) (r .log))
@@ -91,7 +91,8 @@ rows =
     row (1 ∷ 0 ∷ 1 ∷ 1 ∷ 0 ∷ 1 ∷ 0 ∷ 0 ∷ 0 ∷ []) 9 4 32768 0 1 (1 ∷ 5 ∷ 7 ∷ []) 3 6 9 («open» ∷ []) ∷
     -- "Facts 0 and 1, one atom: log 0,4,2,6; spent 7, which is the bound"; document 02, S-1: it "changes to clash; logs and prices stay".
     row (1 ∷ 2 ∷ 0 ∷ 0 ∷ 0 ∷ 0 ∷ 0 ∷ 0 ∷ 1 ∷ []) 7 4 32768 0 1 (0 ∷ 4 ∷ 2 ∷ 6 ∷ []) 4 7 7 (clash ∷ []) ∷
-    -- "No antecedents, rule 0 defeasible to 0, rule 1 defeater to 1: log 1,5,3,7; split."
+    -- "No antecedents, rule 0 defeasible to 0, rule 1 defeater to 1: log 1,5,3,7; split."; document 02, S-6: it "stays split, for its rule 0
+    -- fires".
     row (1 ∷ 0 ∷ 2 ∷ 0 ∷ 0 ∷ 1 ∷ 2 ∷ 0 ∷ 1 ∷ []) 7 4 32768 0 1 (1 ∷ 5 ∷ 3 ∷ 7 ∷ []) 4 7 7 (split ∷ []) ∷
     -- "Pairs (0,1),(1,0): 7." "Pair (0,0): 7."
     row (1 ∷ 0 ∷ 2 ∷ 0 ∷ 2 ∷ 1 ∷ 1 ∷ 0 ∷ 1 ∷ 0 ∷ 1 ∷ 1 ∷ 0 ∷ []) 13 4 32768 7 0 [] 0 0 13 [] ∷

@@ -21,9 +21,9 @@ use Rattle.table.specs.Refusals.{numberOf, judgementOf}
 use Rattle.engine.specs.Answers.{runOf}
 use Rattle.report.specs.Text.{decimal, wordOf, atomsWord, spentWord, ofWord, refusedWord, space, newline}
 
--- the verdict of an atom by the lines of a log
-abbrev pub verdictIn : List ℕ → ℕ → Verdict
-verdictIn log a = verdict (taggedBy 4 (held log)) a
+-- the verdict of an atom of a theory by the lines of a log
+abbrev pub verdictIn : Theory → List ℕ → ℕ → Verdict
+verdictIn d log a = verdict d (taggedBy 4 (held log)) a
 
 -- "then atom and verdict": the lines of the atoms below n
 unfoldable pub atomLine : ℕ → Verdict → List ℕ
@@ -40,9 +40,9 @@ countLine atoms = atomsWord ++ decimal atoms ++ newline
 unfoldable pub spentLine : ℕ → ℕ → List ℕ
 spentLine spent most = spentWord ++ decimal spent ++ ofWord ++ decimal most ++ newline
 
--- the sheet of a run, by the number of atoms, its log, what it spent and the bound
-unfoldable pub runSheet : ℕ → List ℕ → ℕ → ℕ → List ℕ
-runSheet atoms log spent most = countLine atoms ++ atomLines (verdictIn log) atoms ++ spentLine spent most
+-- the sheet of a run, by what the table says, its log, what it spent and the bound
+unfoldable pub runSheet : Theory → List ℕ → ℕ → ℕ → List ℕ
+runSheet d log spent most = countLine (d .atoms) ++ atomLines (verdictIn d log) (d .atoms) ++ spentLine spent most
 
 -- "A refused table prints `refused` and its number, one line, as `refused 7`."
 unfoldable pub refusedSheet : ℕ → List ℕ
@@ -53,7 +53,7 @@ abbrev pub budgetOf : Theory → ℕ
 budgetOf d = bound d
 
 unfoldable pub sheetBy : Judgement → Theory → List ℕ
-sheetBy (Accepted s) d = runSheet (d .atoms) (logOf (runOf d (budgetOf d))) (runOf d (budgetOf d) .spent) (bound d)
+sheetBy (Accepted s) d = runSheet d (logOf (runOf d (budgetOf d))) (runOf d (budgetOf d) .spent) (bound d)
 sheetBy (Refused n) d = refusedSheet (numberOf n)
 
 abbrev pub sheetOf : List ℕ → List ℕ

@@ -4,9 +4,9 @@ use mathlib.Core.Bool.{cond}
 use mathlib.Core.List.{List, [], _∷_, _++_}
 use lib.Dec.{ltb}
 use Rattle.logic.specs.Verdict as logic
-use Rattle.logic.specs.Verdict.{clash, go, hold, split, «open»}
+use Rattle.logic.specs.Verdict.{clash, go, hold, idle, split, «open»}
 use Rattle.report.specs.declared.verdict.Verdict.{Verdict}
-use Rattle.report.specs.declared.verdict.Verdict.the-variants.{Clash, Go, Hold, Split, Open}
+use Rattle.report.specs.declared.verdict.Verdict.the-variants.{Clash, Go, Hold, Idle, Split, Open}
 
 -- "Numbers stand in decimal.": the digit of a number below 10; the digits of a number, which are those of its tenth part and its last
 -- one, so that 0 leads in 0 alone. The first argument bounds the steps: a number takes no more than itself.
@@ -25,11 +25,12 @@ unfoldable pub valueFrom : ℕ → List ℕ → ℕ
 valueFrom n [] = n
 valueFrom n (d ∷ ds) = valueFrom (10 * n + (d - 48)) ds
 
--- The verdict that each case of the enum means, and the papers' word for it: "clash", "go", "hold", "split", "open".
+-- The verdict that each case of the enum means, and the papers' word for it: "clash", "go", "hold", "idle", "split", "open".
 unfoldable pub meant : Verdict → logic.Verdict
 meant Clash = clash
 meant Go = go
 meant Hold = hold
+meant Idle = idle
 meant Split = split
 meant Open = «open»
 
@@ -37,6 +38,7 @@ unfoldable pub wordOf : logic.Verdict → List ℕ
 wordOf clash = 99 ∷ 108 ∷ 97 ∷ 115 ∷ 104 ∷ []
 wordOf go = 103 ∷ 111 ∷ []
 wordOf hold = 104 ∷ 111 ∷ 108 ∷ 100 ∷ []
+wordOf idle = 105 ∷ 100 ∷ 108 ∷ 101 ∷ []
 wordOf split = 115 ∷ 112 ∷ 108 ∷ 105 ∷ 116 ∷ []
 wordOf «open» = 111 ∷ 112 ∷ 101 ∷ 110 ∷ []
 

@@ -2,13 +2,16 @@
 ghost use Prim.Native.Nat.{_+_, _*_, _≤_};
 ghost use mathlib.Core.Path.{_≡_};
 ghost use lib.ListN.{length, take};
+ghost use Rattle.logic.specs.Tests.{isnt};
 ghost use Rattle.logic.specs.Reading.{taggedBy};
-ghost use Rattle.logic.specs.Verdict.{verdict};
+ghost use Rattle.logic.specs.Verdict.{verdictBy};
+ghost use Rattle.table.specs.Format.{theoryIn};
 ghost use Rattle.table.specs.Refusals.{numberOf};
 ghost use Rattle.standing.specs.Marks.{marked};
 ghost use Rattle.report.specs.Sheet.{atomLine, atomLines, countLine, spentLine, runSheet, refusedSheet, sheetOf, Printed};
 ghost use Rattle.report.specs.Printing.{Put, FitsRun};
 ghost use Rattle.report.specs.Text.{meant};
+use crate::support::supported_of;
 use crate::text::put;
 use crate::text::put_number;
 use crate::verdict::Verdict;
@@ -21,6 +24,7 @@ use engine::run::SCRATCH;
 use engine::run::run;
 use standing::marks::marks_of;
 use table::edition::Edition;
+use table::edition::layout;
 use table::format::Literal;
 use table::format::Sizes;
 use table::judge::Refusal;
@@ -53,15 +57,15 @@ fn put_atom(out: &mut [u8], at: usize, a: u16, v: Verdict) -> usize
 }
 
 // By the literals that say that an atom holds.
-fn put_atoms(out: &mut [u8], from: usize, marks: &[u8], atoms: u16) -> usize
+fn put_atoms(out: &mut [u8], from: usize, marks: &[u8], supported: &[u8], atoms: u16) -> usize
     requires { ⌜ (from ≤ 10) × (atoms ≤ 512) × (length (now out) ≡ 5041) ⌝ }
-    ensures { λ r. ⌜ Put (now (out .entry)) from (atomLines (verdict (taggedBy 4 (marked (now (marks .entry))))) atoms) (now (out .exit)) r ⌝ }
+    ensures { λ r. ⌜ Put (now (out .entry)) from (atomLines (verdictBy (taggedBy 4 (marked (now (marks .entry)))) (λ q. isnt (marked (now (supported .entry)) q))) atoms) (now (out .exit)) r ⌝ }
 {
     let mut at = from;
     let mut q: u16 = 0;
     while q < 2 * atoms {
         let holds = Literal(q);
-        let v = verdict_of(marks, holds);
+        let v = verdict_of(marks, supported, holds);
         at = put_atom(out, at, holds.atom(), v);
         q += 2;
     }
@@ -80,14 +84,15 @@ fn put_spent(out: &mut [u8], at: usize, spent: u32, most: u32) -> usize
     put(out, last, b"\n")
 }
 
-fn put_run(out: &mut [u8], atoms: u16, log: &[u16], c: Counts, most: u32) -> usize
-    requires { ⌜ FitsRun atoms most (now log) c × (length (now out) ≡ 5041) ⌝ }
-    ensures { λ r. ⌜ Put (now (out .entry)) 0 (runSheet atoms (take (c .lines) (now (log .entry))) (c .spent) most) (now (out .exit)) r ⌝ }
+fn put_run(out: &mut [u8], layout: &[u8], s: Sizes, log: &[u16], c: Counts, most: u32) -> usize
+    requires { ⌜ FitsRun (now layout) s most (now log) c × (length (now out) ≡ 5041) ⌝ }
+    ensures { λ r. ⌜ Put (now (out .entry)) 0 (runSheet (theoryIn (now (layout .entry)) s) (take (c .lines) (now (log .entry))) (c .spent) most) (now (out .exit)) r ⌝ }
 {
     let n = c.lines as usize;
     let marks = marks_of(&log[..n]);
-    let count = put_count(out, 0, atoms);
-    let last = put_atoms(out, count, &marks, atoms);
+    let supported = supported_of(layout, s, &marks);
+    let count = put_count(out, 0, s.atoms);
+    let last = put_atoms(out, count, &marks, &supported, s.atoms);
     put_spent(out, last, c.spent, most)
 }
 
@@ -117,13 +122,14 @@ fn put_sheet(table: &[u8], out: &mut [u8]) -> usize
     ensures { λ r. ⌜ Put (now (out .entry)) 0 (sheetOf (now (table .entry))) (now (out .exit)) r ⌝ }
 {
     let s = sizes_of(table, Edition::Old);
+    let old = layout(table, Edition::Old);
     let most = bound_of(s);
     let mut log = [0u16; 4 * Sizes::MAX_ATOMS as usize];
     let mut scratch = [0u16; SCRATCH];
     match run(table, Edition::Old, most, &mut log, &mut scratch) {
         Answer::Refused(why) => put_refused(out, why),
-        Answer::Stopped(c) => put_run(out, s.atoms, &log, c, most),
-        Answer::Finished(c) => put_run(out, s.atoms, &log, c, most),
+        Answer::Stopped(c) => put_run(out, old, s, &log, c, most),
+        Answer::Finished(c) => put_run(out, old, s, &log, c, most),
     }
 }
 

@@ -7,7 +7,7 @@ use Rattle.logic.specs.Theory.{Theory}
 use Rattle.logic.specs.System.{held}
 use Rattle.logic.specs.Reading.{taggedBy}
 use Rattle.logic.specs.Inference.{+∂, −∂}
-use Rattle.logic.specs.Tests.{everyOf, someOf}
+use Rattle.logic.specs.Tests.{isnt, everyOf, someOf}
 use Rattle.logic.specs.Standing as logic
 use Rattle.logic.specs.Standing.{firing, out, waiting, firstFit, standing, standingNumber}
 use Rattle.table.specs.declared.format.Sizes.{Sizes}
@@ -22,7 +22,7 @@ use Rattle.standing.specs.declared.answer.Standing.the-variants.{Firing,
 use Rattle.standing.specs.declared.answer.StandingNumbers.{StandingNumbers}
 use Rattle.standing.specs.declared.answer.StandingAnswer.{StandingAnswer}
 use Rattle.standing.specs.declared.answer.StandingAnswer.the-variants.{Refused, Stands}
-use Rattle.standing.specs.Marks.{marked}
+use Rattle.standing.specs.Marks.{marked, MarkedBy}
 
 -- the standing that each case of the enum means
 unfoldable pub meant : Standing → logic.Standing
@@ -52,6 +52,11 @@ answerWith (judgement.Refused n) d r log = refusalNumbers (numberOf n)
 
 abbrev pub standingOf : Edition → List ℕ → ℕ → List ℕ → StandingNumbers
 standingOf e b r log = answerWith (judgementOf e b) (theoryOf e b) r log
+
+-- the marks of the rules, of those below 1,024, with an antecedent that lacks +∂, and of those with one that has −∂, by the marks of a log
+pub record Stood (b : List ℕ) (s : Sizes) (marks lacking refuted : List ℕ) : Type 0 where
+  pub plus : MarkedBy (λ r. someOf (bodyIn b s r) (λ a. isnt (taggedBy 4 (marked marks) a +∂))) 1024 lacking
+  pub minus : MarkedBy (λ r. someOf (bodyIn b s r) (λ a. taggedBy 4 (marked marks) a −∂)) 1024 refuted
 
 -- the standing by the marks of a log
 unfoldable pub standingBy : List ℕ → Sizes → ℕ → List ℕ → logic.Standing

@@ -3,6 +3,7 @@ pub mod Reading
 pub mod Sections
 pub mod Joined
 pub mod Numbers
+pub mod Matching
 pub mod Judging
 pub mod Bodies
 pub mod Legal

@@ -4,44 +4,41 @@ use native.Mathlib.Omega.{arith}
 use mathlib.Core.Path.{_≡_, refl, _∙_, ap, subst}
 use lib.ListN.{length}
 use Rattle.logic.specs.Theory.{atom}
-use Rattle.logic.specs.Reading.{taggedBy}
-use Rattle.logic.specs.Verdict.{verdict}
 use Rattle.report.specs.Text.{meant}
 use Rattle.report.specs.Sheet.{atomLine, atomLines}
-use Rattle.standing.specs.Marks.{marked}
 use Rattle.report.specs.Printing.{Put}
-use Rattle.report.proofs.Lengths.{line-room, lines-none, lines-next, lines-end}
+use Rattle.report.proofs.Lengths.{verdictsBy, line-room, lines-none, lines-next, lines-end}
 use borrow.Author.Needs.{needs}
 use Rattle.report.proofs.sheet.put_atoms.Statement.{statement}
 use Rattle.report.proofs.sheet.put_atoms.Tie as tie
 
 abbrev Inv-loop : tie.InvT-loop
-Inv-loop out₀ from marks atoms at₀ q₀ out at q =
-    (q ≤ 2 * atoms) × (q ≡ 2 * atom q) × (length out ≡ length out₀) × Put out₀ from (atomLines (verdict (taggedBy 4 (marked marks))) (atom q)) out at
+Inv-loop out₀ from marks supported atoms at₀ q₀ out at q =
+    (q ≤ 2 * atoms) × (q ≡ 2 * atom q) × (length out ≡ length out₀) × Put out₀ from (atomLines (verdictsBy marks supported) (atom q)) out at
 
 abbrev μ-loop : tie.MeasureT-loop
-μ-loop out₀ from marks atoms at₀ q₀ out at q = 2 * atoms - q
+μ-loop out₀ from marks supported atoms at₀ q₀ out at q = 2 * atoms - q
 
 loop-holds : tie.Need-loop-holds Inv-loop μ-loop
 loop-holds c =
-    let args = c .before .before .args in
-    (omega arith, refl, refl, lines-none (verdict (taggedBy 4 (marked (args .marks .now)))) (args .out .now) (args .from))
+    let args = c .before .before .before .args in
+    (omega arith, refl, refl, lines-none (verdictsBy (args .marks .now) (args .supported .now)) (args .out .now) (args .from))
 
 verdict-of-requires : tie.Need-verdict-of-requires Inv-loop μ-loop
 verdict-of-requires c κs = c .before .loop .inv .1
 
 put-atom-requires : tie.Need-put-atom-requires Inv-loop μ-loop
 put-atom-requires c κs =
-    let at-verdict-of = c .before .before in let at-loop = at-verdict-of .before .before in let start = at-loop .before .before .before in
+    let at-verdict-of = c .before .before in let at-loop = at-verdict-of .before .before in let start = at-loop .before .before .before .before in
     let pre = start .pre in let args = start .args in let v = meant (at-verdict-of .verdict-of .result) in
     omega
-    (arith, line-room (verdict (taggedBy 4 (marked (args .marks .now)))) (atom (at-loop .loop .q)) (args .from) (at-loop .loop .at) v (pre .0) (omega arith) (at-loop .loop .inv .3 .end) (at-verdict-of .verdict-of .ensures), ap (λ a. length (atomLine a v)) (c .atom .ensures), at-loop .loop .inv .2, pre .2)
+    (arith, line-room (verdictsBy (args .marks .now) (args .supported .now)) (atom (at-loop .loop .q)) (args .from) (at-loop .loop .at) v (pre .0) (omega arith) (at-loop .loop .inv .3 .end) (at-verdict-of .verdict-of .ensures), ap (λ a. length (atomLine a v)) (c .atom .ensures), at-loop .loop .inv .2, pre .2)
 
 loop-again : tie.Need-loop-again Inv-loop μ-loop
 loop-again c =
     let at-put-atom = c .before .before in let at-atom = at-put-atom .before in let at-verdict-of = at-atom .before .before in
-    let at-loop = at-verdict-of .before .before in let start = at-loop .before .before .before in let pre = start .pre in let args = start .args in
-    let f = verdict (taggedBy 4 (marked (args .marks .now))) in let q = at-loop .loop .q in (
+    let at-loop = at-verdict-of .before .before in let start = at-loop .before .before .before .before in let pre = start .pre in let args = start .args in
+    let f = verdictsBy (args .marks .now) (args .supported .now) in let q = at-loop .loop .q in (
       omega arith,
       omega (arith, at-loop .loop .inv .1),
       (at-put-atom .put-atom .kept .0) ∙ (at-loop .loop .inv .2),
@@ -56,8 +53,8 @@ same-length c = c .before .loop .inv .2
 
 returns : tie.Need-returns Inv-loop μ-loop
 returns c =
-    let at-loop = c .before in
-    lines-end (verdict (taggedBy 4 (marked (at-loop .before .before .before .args .marks .now)))) (omega arith) (omega arith) (at-loop .loop .inv .3)
+    let at-loop = c .before in let args = at-loop .before .before .before .before .args in
+    lines-end (verdictsBy (args .marks .now) (args .supported .now)) (omega arith) (omega arith) (at-loop .loop .inv .3)
 
 pub put-atoms-spec : {M : Type 1} → statement M
 put-atoms-spec =

@@ -21,7 +21,13 @@ returns-4 c = simp (c .before .before .before .if1 .left, c .before .before .if2
 
 returns-5 : tie.Need-returns-5
 unfolding meant
-returns-5 c = simp (c .before .before .before .if1 .left, c .before .before .if2 .left, c .before .if3 .left, c .if4 .left)
+returns-5 c =
+    simp (c .before .before .before .before .if1 .left, c .before .before .before .if2 .left, c .before .before .if3 .left, c .before .if4 .left, c .if5 .taken)
+
+returns-6 : tie.Need-returns-6
+unfolding meant
+returns-6 c =
+    simp (c .before .before .before .before .if1 .left, c .before .before .before .if2 .left, c .before .before .if3 .left, c .before .if4 .left, c .if5 .left)
 
 pub first-fit-spec : {M : Type 1} → statement M
-first-fit-spec = tie.close (tie.spec returns returns-2 returns-3 returns-4 returns-5)
+first-fit-spec = tie.close (tie.spec returns returns-2 returns-3 returns-4 returns-5 returns-6)

@@ -4,7 +4,7 @@ use native.Mathlib.Omega.{arith}
 use mathlib.Core.Path.{refl}
 use lib.ListN.{length, take}
 use Rattle.standing.specs.Marks.{Marked}
-use Rattle.standing.proofs.Marking.{marks-all, marks-next, marks-none}
+use Rattle.standing.proofs.Marking.{lines-all, lines-next, lines-none}
 use borrow.Author.Needs.{needs}
 use Rattle.standing.proofs.marks.marks_of.Statement.{statement}
 use Rattle.standing.proofs.marks.marks_of.Tie as tie
@@ -16,22 +16,19 @@ abbrev μ-loop : tie.MeasureT-loop
 μ-loop log marks₀ i₀ marks i = length log - i
 
 loop-holds : tie.Need-loop-holds Inv-loop μ-loop
-loop-holds c = (omega arith, marks-none (c .before .args .log .now))
-
-mark-requires : tie.Need-mark-requires Inv-loop μ-loop
-mark-requires c κs = c .before .before .before .loop .inv .1 .size
+loop-holds c = (omega arith, lines-none (c .before .args .log .now))
 
 loop-again : tie.Need-loop-again Inv-loop μ-loop
 loop-again c =
     let at-mark = c .before in let at-loop = at-mark .before .before .before .before in
-    (omega arith, marks-next (at-loop .before .before .args .log .now) _ _ refl (omega (arith, at-mark .before .before .before .loop-test .taken)) (at-mark .mark .kept .0) (at-loop .loop .inv .1) (at-mark .mark .ensures))
+    (omega arith, lines-next (at-loop .before .before .args .log .now) _ _ refl (omega (arith, at-mark .before .before .before .loop-test .taken)) (at-mark .mark .kept .0) (at-loop .loop .inv .1) (at-mark .mark .ensures))
 
 returns : tie.Need-returns Inv-loop μ-loop
-returns c = marks-all _ _ (c .loop-test .left) (c .before .loop .inv .1)
+returns c = lines-all _ _ (c .loop-test .left) (c .before .loop .inv .1)
 
 pub marks-of-spec : {M : Type 1} → statement M
 marks-of-spec =
     tie.close
     (tie.spec
-    Inv-loop μ-loop loop-holds (λ c. search needs) (λ c. search needs) (λ c. search needs) mark-requires (λ c. search needs) (λ c. search needs)
+    Inv-loop μ-loop loop-holds (λ c. search needs) (λ c. search needs) (λ c. search needs) (λ c κs. search needs) (λ c. search needs) (λ c. search needs)
     loop-again returns)

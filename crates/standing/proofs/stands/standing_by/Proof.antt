@@ -4,7 +4,8 @@ use native.Mathlib.Omega.{arith}
 use native.Mathlib.Nat.{le-antisymm}
 use mathlib.Core.Path.{_≡_, refl, _∙_, ap}
 use Rattle.logic.specs.Tests.{some}
-use Rattle.standing.proofs.Bodies.{lacks, lacks-read, refutes, refutes-read, some-next, standing-read}
+use Rattle.logic.proofs.Tests.{some-next}
+use Rattle.standing.proofs.Bodies.{lacks, lacks-read, refutes, refutes-read, standing-read}
 use borrow.Author.Needs.{needs}
 use Rattle.standing.proofs.stands.standing_by.Statement.{statement}
 use Rattle.standing.proofs.stands.standing_by.Tie as tie
