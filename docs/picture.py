@@ -35,7 +35,8 @@ VERDICTS = {
     'clash': ('#a85400', 'the table says both that it holds and that it does not'),
     'go': (FOR, 'the rules say that it holds'),
     'hold': (AGAINST, 'the rules say that it does not hold'),
-    'split': ('#8e44ad', 'proved: neither it nor its opposite has a proof'),
+    'idle': ('#6d6d6d', 'nothing that is met speaks for or against it'),
+    'split': ('#8e44ad', 'reasons stand against each other'),
     'open': ('#1b6ca8', 'the rules settle neither; they go round'),
 }
 KINDS = {
@@ -215,6 +216,8 @@ def shape(x, y, verdict):
         return [polygon([(x - 7, y - 8), (x + 8, y), (x - 7, y + 8)], colour)]
     if verdict == 'hold':
         return [rect(x - 7, y - 7, 14, 14, fill=colour)]
+    if verdict == 'idle':
+        return [rect(x - 8, y - 2.5, 16, 5, fill=colour)]
     if verdict == 'split':
         return [polygon([(x + s * 2, y - 8), (x + s * 2, y + 8), (x + s * 9, y)], colour) for s in (-1, 1)]
     return [ring(x, y, colour)]

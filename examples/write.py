@@ -76,6 +76,22 @@ EXAMPLES = {
         "The table says both that the switch is up and that it is not: clash. So both rules are met, and neither is over the other:\n"
         "split. Bar 4 is hold once the second fact is taken out, and go once the first is.",
     ),
+    "split-or-idle": (
+        "A dispute and a silence (document 02, S-6)",
+        [
+            "the winch of bar 6 is in service",
+            "bar 6 may travel",
+            "the cue for bar 11 was given",
+            "a ladder stands under bar 11",
+            "bar 11 may travel",
+        ],
+        [2, 3],
+        [(DEFEASIBLE, [0], 1), (DEFEASIBLE, [2], 4), (DEFEASIBLE, [3], ~4)],
+        [],
+        "Nothing says whether the winch of bar 6 is in service: idle. So the only rule about bar 6 is out, and nothing that is met speaks\n"
+        "for bar 6 or against it: idle. On bar 11 a rule for it and a rule against it are both met, and neither is over the other: split.\n"
+        "Neither bar may travel: at bar 6 something is missing, at bar 11 somebody has to say which rule is stronger.",
+    ),
     "circle": (
         "Priorities that go round",
         ["bar 5 may travel"],

@@ -13,11 +13,11 @@
 //! of the output the byte count of the new file. By the lines of a run no rule may both fire and be out. A table with origins runs like
 //! the same without them, in both editions, and a table that is converted there and back is the table again. The first mismatch is printed
 //! and ends the program with status 1: where the table comes from and what differs first (records, words, bytes and lines are counted
-//! from 0). What is printed at the end is how often each answer came, in the old layout and in edition two, among them lines in a log
-//! below 4A words (a short log), and short logs that a larger budget outgrows. Each must have come often enough, unless fewer CALLS (of
-//! fly_run) than the default are asked for.
+//! from 0). What is printed at the end is how often each verdict stood on a sheet, and how often each answer came, in the old layout and
+//! in edition two, among them lines in a log below 4A words (a short log), and short logs that a larger budget outgrows. Each must have
+//! come often enough, unless fewer CALLS (of fly_run) than the default are asked for.
 //!
-//! --vectors DIR: base.bin, sheets-S1.bin, short-logs.bin and editions.bin there, against both engines, before the CALLS.
+//! --vectors DIR: base.bin, sheets-S6.bin, short-logs.bin and editions.bin there, against both engines, before the CALLS.
 //! --mutant K: the test's own test, of fewer CALLS. A deliberate fault in the slow engine or in what is expected of the buffers, which
 //! must end in a mismatch.
 //! --mutants: the number and the fault of each, a line for each K.
@@ -130,6 +130,13 @@ const MUTANTS: &[&str] = &[
     "a conversion answers with a byte count beside 9",
     "the byte past the new file becomes 0",
     "a refused conversion writes the first byte",
+    "idle by the supporters of 2a alone",
+    "idle by the supporters of 2a + 1 alone",
+    "split before idle",
+    "a defeater counts as a supporter for idle",
+    "idle where no supporter fires",
+    "an atom without supporters is not idle",
+    "idle by −Δ of an antecedent",
 ];
 
 /// How often each answer came for tables of one edition.
@@ -146,6 +153,8 @@ struct Counts {
     converted: u64,
     not_converted: [u64; 11], // by the number of the refusal
 }
+
+const VERDICTS: [&str; 6] = ["clash", "go", "hold", "idle", "split", "open"];
 
 /// What was counted, how often it came, and how often it must have come.
 type Count = (String, u64, u64);
@@ -193,6 +202,7 @@ struct Bench {
     last: u64,       // the number of calls to end at
     calls: u64,
     sheets: u64,
+    verdicts: [u64; 6], // by their words on the sheets
     standings: u64,
     conversions: u64,
     counts: [Counts; 3], // of no edition, of the old layout, of edition two
@@ -309,6 +319,7 @@ impl Bench {
             last: u64::MAX,
             calls: 0,
             sheets: 0,
+            verdicts: [0; 6],
             standings: 0,
             conversions: 0,
             counts: Default::default(),
@@ -449,6 +460,10 @@ impl Bench {
         let lent = &self.table[at..at + t.len()];
         let length = unsafe { fly_sheet(lent.as_ptr(), lent.len(), self.out[out.clone()].as_mut_ptr()) } as usize;
         self.sheets += 1;
+        let words = text.lines().filter_map(|line| line.split_once(' '));
+        for k in words.filter_map(|(_, word)| VERDICTS.iter().position(|&v| v == word)) {
+            self.verdicts[k] += 1;
+        }
         let shown = String::from_utf8_lossy(&self.out[out.clone()][..length.min(SHEET)]);
         let difference = lines_differ(&shown, &text)
             .or_else(|| (length != text.len()).then(|| format!("length came {length} wanted {}", text.len())))
@@ -1140,6 +1155,15 @@ impl Bench {
             self.slow_prints(&t.bytes, text);
             self.sheet(&t.bytes);
         }
+        for (name, rules, wanted) in silent_and_split() {
+            self.place = format!("document 02, S-6: {name}");
+            let t = table(2, &[], rules, &[]).bytes;
+            let came: Vec<_> = slow::sheet(&t).lines().skip(1).take(2).map(|l| l[2..].to_string()).collect();
+            if came != wanted && mutant(0) {
+                self.mismatch("slow engine: verdicts", &t, format!("slow   {came:?}\nwanted {wanted:?}"));
+            }
+            self.sheet(&t);
+        }
         self.standing_cases();
         self.edition_cases();
         self.left_words();
@@ -1255,9 +1279,9 @@ impl Bench {
         r.end();
     }
 
-    /// sheets-S1.bin, against both engines.
+    /// sheets-S6.bin, against both engines.
     fn sheet_vectors(&mut self, dir: &str) {
-        let mut r = Reader::open(dir, "sheets-S1.bin");
+        let mut r = Reader::open(dir, "sheets-S6.bin");
         while r.at < r.bytes.len() {
             self.place = r.place();
             let (t, text) = (r.field(), r.field());
@@ -1281,6 +1305,7 @@ impl Bench {
             counted("tables that ran alike with origins and without", self.alike, 5_000),
             counted("tables converted there and back", self.returned, 20_000),
         ];
+        list.extend(VERDICTS.iter().zip(self.verdicts).map(|(word, came)| counted(word, came, 2_000)));
         list.extend(old.list("old layout: ", 10_000));
         list.extend(two.list("edition two: ", 5_000));
         list.extend([
@@ -1548,6 +1573,27 @@ fn sheets() -> Vec<(&'static str, Table, &'static str)> {
         ("a defeater", defeater(), "atoms 1\n0 split\nspent 7 of 7\n"),
         ("pairs (0,1),(1,0)", opposed(&[(0, 1), (1, 0)]), "refused 7\n"),
         ("the platypus", platypus(), "atoms 5\n0 go\n1 go\n2 go\n3 go\n4 go\nspent 47 of 51\n"),
+    ]
+}
+
+/// What it is, the rules over two atoms, and their verdicts (document 02, S-6).
+type Silent = (&'static str, &'static [(usize, usize, &'static [usize])], [&'static str; 2]);
+
+fn silent_and_split() -> Vec<Silent> {
+    vec![
+        ("no rules", &[], ["idle", "idle"]),
+        ("an only supporter that is out", &[(1, 0, &[2])], ["idle", "idle"]),
+        ("an only supporter of the complement, out", &[(1, 1, &[2])], ["idle", "idle"]),
+        ("a supporter of each that is out", &[(1, 0, &[2]), (1, 1, &[3])], ["idle", "idle"]),
+        ("one that is out by one of two antecedents", &[(1, 0, &[2, 3]), (1, 2, &[])], ["idle", "go"]),
+        ("a defeater alone", &[(2, 0, &[])], ["idle", "idle"]),
+        ("a defeater against a rule that is out", &[(1, 0, &[2]), (2, 1, &[])], ["idle", "idle"]),
+        ("a rule against a defeater", &[(1, 0, &[]), (2, 1, &[])], ["split", "idle"]),
+        ("the other way round", &[(1, 1, &[]), (2, 0, &[])], ["split", "idle"]),
+        ("a rule against a rule", &[(1, 0, &[]), (1, 1, &[])], ["split", "idle"]),
+        ("and a third that is out", &[(1, 0, &[]), (1, 1, &[]), (1, 1, &[2])], ["split", "idle"]),
+        ("a supporter that fires by +∂ alone", &[(1, 2, &[]), (1, 0, &[2]), (2, 1, &[])], ["split", "go"]),
+        ("a supporter that waits", &[(1, 2, &[2]), (1, 0, &[2]), (2, 1, &[])], ["split", "open"]),
     ]
 }
 

@@ -518,19 +518,32 @@ pub fn sheet(bytes: &[u8]) -> String {
     let theory = theory(bytes, OLD);
     let (answer, log) = theory.work(theory.bound as u32);
     let has = |q: usize, tag: usize| log.contains(&(line(q, tag) as u16));
+    // Document 02, S-6: "every supporter .. has an antecedent with −∂"
+    let silent = |q: usize| {
+        let rules: Vec<usize> = if mutant(72) { theory.rules_for(q).collect() } else { theory.supporters(q).collect() };
+        let any = |r: usize, tag: usize| theory.rules[r].body.iter().any(|&x| has(x, tag));
+        let fires = |r: usize| theory.rules[r].body.iter().all(|&x| has(x, PLUS_PARTIAL));
+        rules.into_iter().all(|r| if mutant(73) { !fires(r) } else { any(r, if mutant(75) { MINUS_DELTA } else { MINUS_PARTIAL }) })
+    };
     // "first the atom count, then atom and verdict, then spent and bound"
     let mut text = format!("atoms {}\n", theory.a);
     for a in 0..theory.a {
         let (yes, no) = (2 * a, 2 * a + 1);
         // "Verdict of atom a, first that fits: go (+∂ of 2a), hold (+∂ of 2a+1), split (−∂ of both), open." Document 02, S-1: "an atom
-        // whose two literals both have +∂ reads clash, tested before go."
+        // whose two literals both have +∂ reads clash, tested before go." S-6: "idle: −∂ of both literals, and every supporter of either
+        // has an antecedent with −∂. The order is clash, go, hold, idle, split, open."
+        let refuted = has(yes, MINUS_PARTIAL) && has(no, MINUS_PARTIAL);
+        let ruled = theory.supporters(yes).chain(theory.supporters(no)).next().is_some() || !mutant(74);
+        let idle = refuted && ruled && (silent(yes) || mutant(70)) && (silent(no) || mutant(69)) && !mutant(71);
         let verdict = if has(yes, PLUS_PARTIAL) && has(no, PLUS_PARTIAL) && !mutant(18) {
             "clash"
         } else if has(yes, PLUS_PARTIAL) {
             "go"
         } else if has(no, PLUS_PARTIAL) {
             "hold"
-        } else if has(yes, MINUS_PARTIAL) && has(no, MINUS_PARTIAL) {
+        } else if idle {
+            "idle"
+        } else if refuted {
             "split"
         } else {
             "open"

@@ -77,7 +77,7 @@ fn main() {
     try_file(b"told.bin", Layout::Told, true);
     try_file(b"bodies.bin", Layout::Bodies, true);
     try_file(b"readers.bin", Layout::Readers, true);
-    try_file(b"sheets-S1.bin", Layout::Sheets, true);
+    try_file(b"sheets-S6.bin", Layout::Sheets, true);
     try_file(b"longest.bin", Layout::Sheets, true);
     try_file(b"editions.bin", Layout::Conversions, true);
     try_file(b"conversions.bin", Layout::Conversions, true);

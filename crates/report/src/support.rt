@@ -1,7 +1,7 @@
 // Which literals have a supporter that is not out: an atom is idle only where neither of its literals has one (document 02, S-6). All of them
 // by one pass over the entries and one over the rules.
-ghost use mathlib.Core.Path.{_≡_};
 ghost use Prim.Native.Nat.{_≤_};
+ghost use mathlib.Core.Path.{_≡_};
 ghost use Rattle.logic.specs.Tests.{isnt};
 ghost use Rattle.logic.specs.Theory.{canSupport};
 ghost use Rattle.logic.specs.Standing.{firstFit, isOut};
