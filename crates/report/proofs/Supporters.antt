@@ -22,11 +22,7 @@ use Rattle.standing.specs.Answers.{standingBy, Stood}
 use Rattle.standing.proofs.Marking.{marked-by, marks-same}
 use Rattle.standing.proofs.Bodies.{stood-standing}
 use Rattle.standing.proofs.Answering.{standing-marked}
-use Rattle.report.specs.Printing.{hasSupport, Supported}
-
--- a rule that supports a literal and is not out
-abbrev pub speaks : Theory → (ℕ → Standing) → ℕ → ℕ → Bool
-speaks d stands q r = supporter d r q and isnt (isOut (stands r))
+use Rattle.report.specs.Printing.{speaks, hasSupport, Supported}
 
 reordered : (a b c : Bool) → (b and (a and c)) ≡ ((a and b) and c)
 unfolding _and_
@@ -34,7 +30,7 @@ reordered true b c = refl
 reordered false true c = refl
 reordered false false c = refl
 
--- as it is read
+-- a rule, as it is read
 pub speaks-read : (b : List ℕ) (s : Sizes) (stands : ℕ → Standing) (r : ℕ) {x : Rule} {can out test : Bool} → x ≡ ruleAt b s r → can ≡ canSupport (kindMeant (x .kind))
     → out ≡ isOut (stands r) → test ≡ (can and not out) → (q : ℕ) → (eqb (x .head .0) q and test) ≡ speaks (theoryIn b s) stands q r
 unfolding theoryIn supporter

@@ -23,9 +23,13 @@ pub record Put (out : List ℕ) (at : ℕ) (text out′ : List ℕ) (r : ℕ) : 
   pub bytes : out′ ≡ take at out ++ text ++ drop (at + length text) out
   pub end : r ≡ at + length text
 
--- The marks of the literals, of those below 1,024, that have a supporter which is not out, by how each rule stands.
+-- By how each rule stands: a rule supports a literal and is not out; a literal has such a rule; the marks of those literals, of the ones
+-- below 1,024.
+abbrev pub speaks : Theory → (ℕ → Standing) → ℕ → ℕ → Bool
+speaks d stands q r = supporter d r q and isnt (isOut (stands r))
+
 unfoldable pub hasSupport : Theory → (ℕ → Standing) → ℕ → Bool
-hasSupport d stands q = some (d .rules) (λ r. supporter d r q and isnt (isOut (stands r)))
+hasSupport d stands q = some (d .rules) (speaks d stands q)
 
 abbrev pub Supported : Theory → (ℕ → Standing) → List ℕ → Type 0
 Supported d stands marks = MarkedBy (hasSupport d stands) 1024 marks

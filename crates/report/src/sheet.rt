@@ -84,6 +84,7 @@ fn put_spent(out: &mut [u8], at: usize, spent: u32, most: u32) -> usize
     put(out, last, b"\n")
 }
 
+// The sheet of an accepted table's run, by the table's layout and the run's log.
 fn put_run(out: &mut [u8], layout: &[u8], s: Sizes, log: &[u16], c: Counts, most: u32) -> usize
     requires { ⌜ FitsRun (now layout) s most (now log) c × (length (now out) ≡ 5041) ⌝ }
     ensures { λ r. ⌜ Put (now (out .entry)) 0 (runSheet (theoryIn (now (layout .entry)) s) (take (c .lines) (now (log .entry))) (c .spent) most) (now (out .exit)) r ⌝ }

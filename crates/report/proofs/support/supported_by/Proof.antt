@@ -9,7 +9,8 @@ use Rattle.logic.specs.Standing.{Standing, firstFit, isOut}
 use Rattle.table.specs.Format.{theoryIn}
 use Rattle.standing.specs.Marks.{marked, MarkedBy}
 use Rattle.standing.proofs.Marking.{some-marked-next, some-marked-none}
-use Rattle.report.proofs.Supporters.{speaks, speaks-read, all-supported}
+use Rattle.report.specs.Printing.{speaks}
+use Rattle.report.proofs.Supporters.{speaks-read, all-supported}
 use borrow.Author.Needs.{needs}
 use Rattle.report.proofs.support.supported_by.Statement.{statement}
 use Rattle.report.proofs.support.supported_by.Tie as tie
