@@ -25,14 +25,14 @@ pub record Put (out : List ℕ) (at : ℕ) (text out′ : List ℕ) (r : ℕ) : 
 
 -- By how each rule stands: a rule supports a literal and is not out; a literal has such a rule; the marks of those literals, of the ones
 -- below 1,024.
-abbrev pub speaks : Theory → (ℕ → Standing) → ℕ → ℕ → Bool
-speaks d stands q r = supporter d r q and isnt (isOut (stands r))
+abbrev pub liveSupporter : Theory → (ℕ → Standing) → ℕ → ℕ → Bool
+liveSupporter d stands q r = supporter d r q and isnt (isOut (stands r))
 
-unfoldable pub hasSupport : Theory → (ℕ → Standing) → ℕ → Bool
-hasSupport d stands q = some (d .rules) (speaks d stands q)
+unfoldable pub hasLiveSupporter : Theory → (ℕ → Standing) → ℕ → Bool
+hasLiveSupporter d stands q = some (d .rules) (liveSupporter d stands q)
 
 abbrev pub Supported : Theory → (ℕ → Standing) → List ℕ → Type 0
-Supported d stands marks = MarkedBy (hasSupport d stands) 1024 marks
+Supported d stands marks = MarkedBy (hasLiveSupporter d stands) 1024 marks
 
 -- The sheet by the engine's answer and the log that it left.
 unfoldable pub sheetTo : Theory → ℕ → List ℕ → Answer → List ℕ

@@ -9,8 +9,8 @@ use Rattle.logic.specs.Standing.{Standing, firstFit, isOut}
 use Rattle.table.specs.Format.{theoryIn}
 use Rattle.standing.specs.Marks.{marked, MarkedBy}
 use Rattle.standing.proofs.Marking.{some-marked-next, some-marked-none}
-use Rattle.report.specs.Printing.{speaks}
-use Rattle.report.proofs.Supporters.{speaks-read, all-supported}
+use Rattle.report.specs.Printing.{liveSupporter}
+use Rattle.report.proofs.Supporters.{live-supporter-read, all-supported}
 use borrow.Author.Needs.{needs}
 use Rattle.report.proofs.support.supported_by.Statement.{statement}
 use Rattle.report.proofs.support.supported_by.Tie as tie
@@ -21,7 +21,7 @@ stands lacking refuted r = firstFit (isnt (marked lacking r)) (marked refuted r)
 
 abbrev Inv-loop : tie.InvT-loop
 Inv-loop layout s lacking refuted supported₀ r₀ supported r =
-    (r ≤ s .rules) × MarkedBy (λ q. some r (speaks (theoryIn layout s) (stands lacking refuted) q)) 1024 supported
+    (r ≤ s .rules) × MarkedBy (λ q. some r (liveSupporter (theoryIn layout s) (stands lacking refuted) q)) 1024 supported
 
 abbrev μ-loop : tie.MeasureT-loop
 μ-loop layout s lacking refuted supported₀ r₀ supported r = s .rules - r
@@ -29,7 +29,7 @@ abbrev μ-loop : tie.MeasureT-loop
 loop-holds : tie.Need-loop-holds Inv-loop μ-loop
 loop-holds c =
     let args = c .before .before .before .args in
-    (omega arith, some-marked-none (speaks (theoryIn (args .layout .now) (args .s)) (stands (args .lacking .now) (args .refuted .now))) 1024)
+    (omega arith, some-marked-none (liveSupporter (theoryIn (args .layout .now) (args .s)) (stands (args .lacking .now) (args .refuted .now))) 1024)
 
 loop-again : tie.Need-loop-again Inv-loop μ-loop
 loop-again c =
@@ -37,8 +37,8 @@ loop-again c =
     let at-standing-at = at-is-out .before in let at-read-rule = at-standing-at .before .before in let at-loop = at-read-rule .before .before .before in
     let args = at-loop .before .before .before .before .args in let stand = stands (args .lacking .now) (args .refuted .now) in let r = at-loop .loop .r in (
       omega arith,
-      some-marked-next (speaks (theoryIn (args .layout .now) (args .s)) stand) r _ _
-          (speaks-read (args .layout .now) (args .s) stand r (at-read-rule .read-rule .ensures) (at-can-support .can-support .ensures)
+      some-marked-next (liveSupporter (theoryIn (args .layout .now) (args .s)) stand) r _ _
+          (live-supporter-read (args .layout .now) (args .s) stand r (at-read-rule .read-rule .ensures) (at-can-support .can-support .ensures)
           (at-is-out .is-out .ensures ∙ ap isOut (at-standing-at .standing-at .ensures)) (at-both .both .ensures))
           (at-loop .loop .inv .1) (at-mark .mark .kept .0) (at-mark .mark .ensures),
     )
