@@ -21,6 +21,7 @@ module _ (d : Theory) where
   abbrev pub NeverBoth : ℕ → (ℕ → ℕ → Bool) → Type 0
   NeverBoth f holds = (r : ℕ) → T (allHave d holds (2 * f) r) → T (oneHas d holds (2 * f + 1) r) → ⊥
 
+-- whether the answer is out
 unfoldable pub isOut : Standing → Bool
 isOut firing = false
 isOut out = true

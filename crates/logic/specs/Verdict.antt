@@ -15,7 +15,7 @@ firstFit isClash isGo isHold isIdle isSplit =
     cond isClash clash (cond isGo go (cond isHold hold (cond isIdle idle (cond isSplit split «open»))))
 
 module _ (holds : ℕ → ℕ → Bool) where
-  -- a tag of both literals
+  -- both literals of an atom have the tag
   abbrev pub ofBoth : ℕ → ℕ → Bool
   ofBoth t a = holds (2 * a) t and holds (2 * a + 1) t
 
@@ -32,5 +32,6 @@ module _ (holds : ℕ → ℕ → Bool) where
   abbrev pub formerVerdict : ℕ → Verdict
   formerVerdict a = verdictWith false a
 
+-- the verdict of an atom of a theory by what is held
 abbrev pub verdict : Theory → (ℕ → ℕ → Bool) → ℕ → Verdict
 verdict d holds a = verdictBy holds (unsupported d holds) a
