@@ -2,7 +2,8 @@
 """tables.py SHAPE K: a legal table of a shape at 1/K of the limits, on standard output.
 chain: each literal rests on the one before; star: all rules on one atom, pairs among them; teams: for each atom two rules beat two;
 random: seeded; full: every size at 1/K of its limit, rules of every kind, 4 antecedents to each, each of the first rules over the 4 after
-it; empty: nothing, for any K."""
+it; house and tour: half of that each, with facts of both and two rules of the tour against two of the house on each of the first atoms; joined:
+the two in one table, with every size at 1/K of its limit and half of the pairs added; empty: nothing, for any K."""
 import random, struct, sys
 shape, k = sys.argv[1], int(sys.argv[2])
 def table(a, facts, rules, pairs):
@@ -17,6 +18,17 @@ if shape == 'empty':
 elif shape == 'full':
     a, f, n, p = 512 // k, 1024 // k, 1024 // k, 2048 // k
     table(a, range(f), [(i % 3, i % (2 * a), range(4)) for i in range(n)], [(i // 4, i // 4 + 1 + i % 4) for i in range(p)])
+elif shape in ('house', 'tour', 'joined'):
+    a, f, n = 512 // k, 1024 // k, 512 // k
+    of = lambda side: [(i % 3, 2 * (i % (n // 2)) + side, range(4)) for i in range(n)]
+    own = [(i // 2, i // 2 + 1 + i % 2) for i in range(n)]
+    added = [(h, n + t) for h in range(n) for t in range(n) if h % (n // 2) == t % (n // 2)]
+    if shape == 'house':
+        table(a, range(3 * f // 4), of(0), own)
+    elif shape == 'tour':
+        table(a, range(f // 4, f), of(1), own)
+    else:
+        table(a, range(f), of(0) + of(1), own + [(n + t, n + s) for t, s in own] + added)
 elif shape == 'chain':
     a, n = 512 // k, 1024 // k
     table(a, [0], [(1, 2 * (1 + i % (a - 1)), [2 * (i % (a - 1))]) for i in range(n)], [])

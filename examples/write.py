@@ -1,6 +1,6 @@
 #!/usr/bin/env python3
 """Writes each example: NAME.table, the file that `./sheet-of` takes, and NAME.txt, what its atoms and rules mean. One is written in edition two
-as well, with the origins of its rules: NAME.two.
+as well, with the origins of its rules: NAME.two. One is the join of two others, made of them here.
 With --check it writes nothing, and fails unless these files are what it would write: for each other one a line says what differs first
 (a byte of a table, a line of a text, counted from 0), what came and what was wanted.
 
@@ -16,6 +16,16 @@ HERE = os.path.dirname(os.path.abspath(__file__))
 STRICT, DEFEASIBLE, DEFEATER = range(3)
 KINDS = ["strict", "defeasible", "defeater"]
 NONE, HOUSE, TOUR, CONSOLE = range(4)
+
+GET_IN = [
+    "the deck is clear",
+    "the house's crew is at lunch",
+    "the tour's truck is at the dock",
+    "bar 1 may travel",
+    "bar 2 may travel",
+    "bar 3 may travel",
+    "the dock door may open",
+]
 
 EXAMPLES = {
     "case-1": (
@@ -92,6 +102,35 @@ EXAMPLES = {
         "for bar 6 or against it: idle. On bar 11 a rule for it and a rule against it are both met, and neither is over the other: split.\n"
         "Neither bar may travel: at bar 6 something is missing, at bar 11 somebody has to say which rule is stronger.",
     ),
+    "get-in-house": (
+        "The get-in: the house's table",
+        GET_IN,
+        [0, 1],
+        [
+            (DEFEASIBLE, [0], 3),
+            (DEFEASIBLE, [1], ~4),
+            (DEFEASIBLE, [0], 4),
+            (DEFEATER, [1], ~5),
+            (DEFEASIBLE, [1], ~6),
+        ],
+        [(1, 2)],
+        "A clear deck lets bars 1 and 2 travel. While the crew is at lunch bar 2 stays and the dock door stays shut; lunch is a reason\n"
+        "against bar 3 too, but for bar 3 there is no rule here: idle. Of the truck this table says nothing: idle.",
+    ),
+    "get-in-tour": (
+        "The get-in: the tour's table",
+        GET_IN,
+        [0, 2],
+        [
+            (DEFEASIBLE, [2], 6),
+            (DEFEASIBLE, [2], 4),
+            (DEFEASIBLE, [0], 5),
+            (STRICT, [2], ~3),
+        ],
+        [],
+        "The same atoms, and the deck is clear here too. While the truck is at the dock the door may open and bar 2 may travel; bar 1, which\n"
+        "hangs above the dock, may not, and that rule is strict. A clear deck lets bar 3 travel. Of the crew this table says nothing: idle.",
+    ),
     "circle": (
         "Priorities that go round",
         ["bar 5 may travel"],
@@ -102,6 +141,25 @@ EXAMPLES = {
     ),
 }
 
+
+def join(house, tour):
+    """Atoms, facts, rules and pairs of a house and a tour in one table (document 02, S-7). The tour's rules are numbered after the house's, and
+    each rule of the house is over each of the tour's whose head is the complement of its own."""
+    (_, atoms, facts, rules, pairs, _), (_, _, others, guests, between, _) = house, tour
+    n = len(rules)
+    added = [(h, n + t) for h, (_, _, head) in enumerate(rules) for t, (_, _, other) in enumerate(guests) if head == ~other]
+    moved = [(n + t, n + s) for t, s in between]
+    return atoms, facts + [f for f in others if f not in facts], rules + guests, sorted(pairs + moved + added)
+
+
+EXAMPLES["get-in-joined"] = (
+    "The get-in: house and tour in one table (document 02, S-7)",
+    *join(EXAMPLES["get-in-house"], EXAMPLES["get-in-tour"]),
+    "Rules 0 to 4 are the house's, rules 5 to 8 the tour's. Rule 1 over rule 2 is the house's own priority; the others came with the join.\n"
+    "They keep bar 2 where it is and the dock door shut, for the tour's rules are beaten there: hold. On bar 3 the house has a defeater,\n"
+    "which the tour's rule does not beat and which proves nothing: split. Bar 1 stays too, though the house's rule is over the tour's:\n"
+    "the tour's is strict and rests on a fact, and no priority helps against that: hold.",
+)
 
 # Whose the rules are, of the example that is written in edition two too.
 ORIGINS = {"house-and-tour": [TOUR, HOUSE, TOUR, HOUSE, TOUR, TOUR]}

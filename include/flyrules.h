@@ -10,17 +10,17 @@
  * longest file has FLY_MAX_TWO bytes; and a rule's left word is its kind and 4 times its origin (fly_origin). A caller that reads a file
  * into a buffer gives it FLY_MAX_TWO + 1 bytes, so that a file that is too long is refused and not cut.
  *
- * The edition. Every call but fly_sheet, which reads the old layout, is told the edition of its table by a number, one of fly_edition. Any
- * other number is refused with FLY_TRUNCATED, whatever the table is. What is concluded and what it costs do not depend on the edition, nor
- * on the origins. fly_convert writes a table in the other edition.
+ * The edition. Every call but fly_sheet, which reads the old layout, is told the edition of its tables by a number, one of fly_edition. Any
+ * other number is refused with FLY_TRUNCATED, whatever the tables are. What is concluded and what it costs do not depend on the edition, nor
+ * on the origins. fly_convert writes a table in the other edition; fly_join reads two tables of one edition, and writes a third in it.
  *
  * A line. The number 4q + tag: tag FLY_TAG(line) of literal FLY_LITERAL(line). Literal 2a says that atom a holds, literal 2a + 1 that it
  * does not: FLY_ATOM(line) is a, and FLY_OPPOSITE(line) is 1 where the line is about "it does not hold". The tags are in fly_tag.
  *
  * Buffers. Each may hold anything before a call. The scratch has FLY_SCRATCH words, for every table. The log has FLY_LOG words, for
- * every table, or 4A, for a table of A atoms. A sheet's buffer has FLY_SHEET bytes, a converter's output FLY_MAX_TWO, for every table, or
- * as many as the new file. Longer ones serve as well; words and bytes past what is used are left alone. A length is a count of elements: of
- * words for log and scratch, of bytes for a table and an output.
+ * every table, or 4A, for a table of A atoms. A sheet's buffer has FLY_SHEET bytes, the output of fly_convert and of fly_join FLY_MAX_TWO,
+ * for every table, or as many as the new file. Longer ones serve as well; words and bytes past what is used are left alone. A length is a
+ * count of elements: of words for log and scratch, of bytes for a table and an output.
  *
  * A short log, of fewer than 4A words, serves too if it has a word for each line that the run writes under its budget; else the call is
  * refused with FLY_SHORT_LOG. That is known at the end of the run alone, so the run is made in memory on the stack, and its lines are
@@ -33,12 +33,12 @@
  * first. A call takes time in proportion to table and log.
  *
  * What a caller owes. Pointers are not NULL, even where a length is 0; each buffer has the length that is passed; buffers overlap neither
- * each other nor the table. Nothing else: what is wrong with a table or with a length is answered by a number (fly_refusal).
+ * each other nor a table. Nothing else: what is wrong with a table or with a length is answered by a number (fly_refusal).
  *
  * Threads and stack. The functions keep no state between calls, allocate nothing, and call nothing of the C library but memcpy and
  * memset. Any number of threads may call them, each with its own buffers; a table, and the log of fly_stands, is only read and may be
  * shared. A run takes at most FLY_RUN_STACK bytes of stack, one with a short log FLY_SHORT_LOG_STACK, a sheet FLY_SHEET_STACK,
- * fly_stands FLY_STANDS_STACK, and fly_convert FLY_CONVERT_STACK.
+ * fly_stands FLY_STANDS_STACK, fly_convert FLY_CONVERT_STACK, and fly_join FLY_JOIN_STACK.
  *
  * The budget. A run spends at most its budget, and takes time in proportion to what it spends (docs/PERFORMANCE.md), after judging the
  * table, which takes time in proportion to the table. With a budget below A+F+N+B+P nothing is written. 5A+F+N+3B+3P finishes, and
@@ -76,6 +76,7 @@ extern "C" {
 #define FLY_SHEET_STACK 98304
 #define FLY_STANDS_STACK 12288
 #define FLY_CONVERT_STACK 8192
+#define FLY_JOIN_STACK 20480
 
 /* a line, taken apart */
 #define FLY_LITERAL(line) ((line) / 4u)
@@ -111,11 +112,11 @@ enum fly_stand {
     FLY_WAITING = 2 /* neither */
 };
 
-/* Why a call is refused. The lowest number that applies is given; fly_stands gives a table's before that of a rule number. What is said of
- * bytes is of those after the first in edition two. */
+/* Why a call is refused. The lowest number that applies is given; fly_stands gives a table's before that of a rule number, and fly_join has
+ * an order of its own, which stands there. What is said of bytes is of those after the first in edition two. */
 enum fly_refusal {
     FLY_TRUNCATED = 1,     /* the table has fewer than 10 bytes; edition two: no first byte, or another than 2; a number of no edition */
-    FLY_TOO_LARGE = 2,     /* one of its five sizes is above its limit */
+    FLY_TOO_LARGE = 2,     /* one of its five sizes is above its limit; fly_join: one of the joined table's is */
     FLY_WRONG_LENGTH = 3,  /* it does not have 10 + 4(F+N+B+P) bytes */
     FLY_BAD_KIND = 4,      /* a fact's left word is not 0, or a rule's is above 2; edition two: its kind is above 2, or its origin above 3 */
     FLY_OUT_OF_RANGE = 5,  /* a literal is not below 2A, or a rule number not below N */
@@ -123,7 +124,9 @@ enum fly_refusal {
     FLY_CYCLIC = 7,        /* the pairs lead from some rule back to itself */
     FLY_SHORT_SCRATCH = 8, /* the scratch has fewer than FLY_SCRATCH words */
     FLY_SHORT_LOG = 9,     /* the run writes more lines than the log has words; fly_convert: the new file has more bytes than the output */
-    FLY_HAS_ORIGIN = 10    /* fly_convert: a rule has an origin, for which the old layout has no place */
+    FLY_HAS_ORIGIN = 10,   /* fly_convert: a rule has an origin, for which the old layout has no place */
+    FLY_ATOMS_DIFFER = 11,  /* fly_join: house and tour do not have the same number of atoms */
+    FLY_SHORT_OUTPUT = 12  /* fly_join: the joined table has more bytes than the output */
 };
 
 /* refused: 0, or the number of the refusal; then the other four are 0, and log and scratch are as they were. Else finished is 1 if
@@ -161,6 +164,18 @@ typedef struct {
  * a run; then an output that is shorter than the new file with FLY_SHORT_LOG; then, on the way back, a rule with an origin with
  * FLY_HAS_ORIGIN. Bytes of the output past the new file are as they were. */
 fly_written fly_convert(const uint8_t *table, size_t table_len, uint32_t edition, uint8_t *out, size_t out_len);
+
+/* Writes a house's table and a tour's in one, over the same atoms. The edition is that of both, and of the new table. That has the facts of
+ * both, each once; the house's rules under their own numbers and the tour's after them, so that rule r of the tour is rule N + r where the
+ * house has N; antecedents, kinds and origins as they are; the pairs of both; and one pair more, house rule over tour rule, for each such two
+ * with complementary heads, whatever their kinds. The new table is never refused by 1 to 7 in its edition: its pairs, too, do not lead from a
+ * rule back to itself. In a run of it that finishes, a strict or defeasible rule of the house whose antecedents all have +∂ gives its head
+ * +∂, if no rule of the house, defeaters included, has the head's complement as head, and that complement has −Δ.
+ * Of these the first that applies is given, and not the lowest number: what the house's table is refused by, as by a run; what the tour's is
+ * refused by; FLY_ATOMS_DIFFER; FLY_TOO_LARGE for the joined table; FLY_SHORT_OUTPUT. Bytes of the output past the new table are as they were.
+ * A call takes time in proportion to both tables and the new one. */
+fly_written fly_join(const uint8_t *house, size_t house_len, const uint8_t *tour, size_t tour_len, uint32_t edition, uint8_t *out,
+                     size_t out_len);
 
 #ifdef __cplusplus
 }

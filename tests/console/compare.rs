@@ -9,15 +9,16 @@
 //! lent part on both sides and hold noise before the call), and the table. For every call of fly_sheet: the length, the text, zeros
 //! past it, the bytes around the buffer, and the table. For every call of fly_stands: the two numbers, the log with the words around it,
 //! and the table. For every call of fly_convert: the two numbers, every byte of the output's buffer (likewise with noise, and past the
-//! lent part), and the table. The lengths lent are around the limits: of the log the lines that the run writes under its budget, and 4A;
-//! of the output the byte count of the new file. By the lines of a run no rule may both fire and be out. A table with origins runs like
-//! the same without them, in both editions, and a table that is converted there and back is the table again. The first mismatch is printed
-//! and ends the program with status 1: where the table comes from and what differs first (records, words, bytes and lines are counted
-//! from 0). What is printed at the end is how often each verdict stood on a sheet, and how often each answer came, in the old layout and
-//! in edition two, among them lines in a log below 4A words (a short log), and short logs that a larger budget outgrows. Each must have
-//! come often enough, unless fewer CALLS (of fly_run) than the default are asked for.
+//! lent part), and the table. For every call of fly_join the same, and both tables. The lengths lent are around the limits: of the log the
+//! lines that the run writes under its budget, and 4A; of the output the byte count of the new file. By the lines of a run no rule may both
+//! fire and be out. A table with origins runs like the same without them, in both editions, and a table that is converted there and back is
+//! the table again. A joined table is accepted, and by the log of its finished run the house's rules have what S-7 promises them. The first
+//! mismatch is printed and ends the program with status 1: where the table comes from and what differs first (records, words, bytes and lines
+//! are counted from 0). What is printed at the end is how often each verdict stood on a sheet, and how often each answer came, in the old
+//! layout and in edition two, among them lines in a log below 4A words (a short log), and short logs that a larger budget outgrows. Each must
+//! have come often enough, unless fewer CALLS (of fly_run) than the default are asked for.
 //!
-//! --vectors DIR: base.bin, sheets-S6.bin, short-logs.bin and editions.bin there, against both engines, before the CALLS.
+//! --vectors DIR: base.bin, sheets-S6.bin, short-logs.bin, editions.bin and joins.bin there, against both engines, before the CALLS.
 //! --mutant K: the test's own test, of fewer CALLS. A deliberate fault in the slow engine or in what is expected of the buffers, which
 //! must end in a mismatch.
 //! --mutants: the number and the fault of each, a line for each K.
@@ -25,7 +26,7 @@
 mod slow;
 mod tables;
 
-use slow::{mutant, Answer, Run, Standing, Written, FIRING, OLD, OUT, SCRATCH, TWO, WAITING};
+use slow::{mutant, Answer, Join, Run, Standing, Written, FIRING, OLD, OUT, SCRATCH, TWO, WAITING};
 use std::fmt::Debug;
 use std::ops::Range;
 use std::sync::atomic::Ordering::Relaxed;
@@ -45,16 +46,25 @@ extern "C" {
     fn fly_sheet(table: *const u8, table_len: usize, out: *mut u8) -> u32;
     fn fly_stands(table: *const u8, table_len: usize, edition: u32, rule: u32, log: *const u16, log_len: usize) -> Standing;
     fn fly_convert(table: *const u8, table_len: usize, edition: u32, out: *mut u8, out_len: usize) -> Written;
+    fn fly_join(
+        house: *const u8,
+        house_len: usize,
+        tour: *const u8,
+        tour_len: usize,
+        edition: u32,
+        out: *mut u8,
+        out_len: usize,
+    ) -> Written;
 }
 
 const SEED: u64 = 20_260;
 const CALLS: u64 = 780_000;
-const MUTANT_CALLS: u64 = 9_000; // the mutant that is caught last needs 8,830
+const MUTANT_CALLS: u64 = 9_200; // the mutant that is caught last needs 9,010
 const SHEET: usize = 5_041;
 const GUARD: usize = 32; // the most words or bytes of a buffer before the lent part, and the least past it
 const LOG_MOST: usize = 4_096; // the longest log lent
 const SCRATCH_MOST: usize = SCRATCH + 1_024; // the longest scratch lent
-const OUT_MOST: usize = SCRATCH_MOST; // the longest output lent
+const OUT_MOST: usize = 40_000; // the longest output lent
 
 /// Numbers of no edition, some of them with the lowest bits of one.
 const NO_EDITION: &[u32] =
@@ -137,6 +147,23 @@ const MUTANTS: &[&str] = &[
     "idle where no supporter fires",
     "an atom without supporters is not idle",
     "idle by −Δ of an antecedent",
+    "an added pair has the tour's rule over the house's",
+    "a fact of both tables stands twice",
+    "a join gives the rules the origins house and tour",
+    "12 before 2 on the joined sizes",
+    "2 on the joined sizes before 11",
+    "the tour judged before the house",
+    "no pair is added for a defeater",
+    "joined pairs counted in 16 bits",
+    "the tour's entries keep their rule numbers",
+    "added pairs stand after all others",
+    "the byte past the joined file becomes 0",
+    "a refused join writes the first byte",
+    "the lowest number that applies to a join",
+    "the tour's pairs keep their rule numbers",
+    "a pair is added for equal heads too",
+    "a join answers with a byte count beside 12",
+    "12 for an output that has fewer than ten bytes more than the joined file",
 ];
 
 /// How often each answer came for tables of one edition.
@@ -152,6 +179,23 @@ struct Counts {
     strange: u64,        // rule numbers not below N, of tables that are accepted
     converted: u64,
     not_converted: [u64; 11], // by the number of the refusal
+    joins: Joins,
+}
+
+/// How often each answer of a join came.
+#[derive(Default)]
+struct Joins {
+    joined: u64,
+    fitted: u64,          // joined, in an output that has no byte more than the file
+    of_house: [u64; 8],   // by the number of the house's refusal
+    of_tour: [u64; 8],    // of a house that is accepted, by the number of the tour's refusal
+    tour_lower: u64,      // the house is refused, and the tour by a lower number
+    apart: u64,           // 11
+    apart_and_large: u64, // 11, where the joined sizes are too large too
+    too_large: [u64; 4],  // 2 on the joined sizes, of which F, N, B or P is the first above its limit
+    wrapped: u64,         // 2, where there are more pairs than 16 bits count
+    large_and_short: u64, // 2, where the output is too short too
+    too_short: u64,       // 12
 }
 
 const VERDICTS: [&str; 6] = ["clash", "go", "hold", "idle", "split", "open"];
@@ -183,8 +227,59 @@ impl Counts {
             answers(&[("firing without antecedents", self.bodiless)], least),
             refusals("conversions ", &[1, 2, 3, 4, 5, 6, 7, 9], &self.not_converted),
             answers(&[("converted", self.converted)], 20_000),
+            refusals("joins, the house ", &[1, 2, 3, 4, 5, 6, 7], &self.joins.of_house),
+            refusals("joins, the tour ", &[1, 2, 3, 4, 5, 6, 7], &self.joins.of_tour),
+            self.joins.list(edition),
         ]
         .concat()
+    }
+}
+
+impl Joins {
+    /// The answers but for the refusals of one table.
+    fn list(&self, edition: &str) -> Vec<Count> {
+        let [_, rules, entries, pairs] = self.too_large;
+        let list = [
+            ("joined", self.joined, 10_000),
+            ("joined, the output just long enough", self.fitted, 5_000),
+            ("joins, the house refused, the tour by a lower number", self.tour_lower, 1_000),
+            ("joins refused 11:", self.apart, 1_000),
+            ("joins refused 11, too large as well:", self.apart_and_large, 150),
+            ("joins refused 2 by rules:", rules, 300),
+            ("joins refused 2 by entries:", entries, 300),
+            ("joins refused 2 by pairs:", pairs, 700),
+            ("joins refused 2 by more pairs than 16 bits count:", self.wrapped, 300),
+            ("joins refused 2, the output too short as well:", self.large_and_short, 700),
+            ("joins refused 12:", self.too_short, 2_000),
+        ];
+        list.into_iter().map(|(what, came, least)| counted(&format!("{edition}{what}"), came, least)).collect()
+    }
+
+    /// The answer of a join with an output of this length.
+    fn count(&mut self, join: &Join, answer: &Written, out_len: usize) {
+        let above = [1_024, 1_024, 4_096, 2_048].iter().zip(join.sizes).position(|(&limit, size)| size > limit);
+        let short = out_len < join.len;
+        match (join.house, join.tour, answer.refused) {
+            (0, 0, 0) => {
+                self.joined += 1;
+                self.fitted += (out_len == join.len) as u64;
+            }
+            (0, 0, 11) => {
+                self.apart += 1;
+                self.apart_and_large += above.is_some() as u64;
+            }
+            (0, 0, 2) => {
+                above.into_iter().for_each(|k| self.too_large[k] += 1);
+                self.wrapped += (join.sizes[3] > 65_535) as u64;
+                self.large_and_short += short as u64;
+            }
+            (0, 0, _) => self.too_short += 1,
+            (0, number, _) => self.of_tour[number as usize] += 1,
+            (number, other, _) => {
+                self.of_house[number as usize] += 1;
+                self.tour_lower += (other != 0 && other < number) as u64;
+            }
+        }
     }
 }
 
@@ -205,11 +300,14 @@ struct Bench {
     verdicts: [u64; 6], // by their words on the sheets
     standings: u64,
     conversions: u64,
+    joins: u64,
     counts: [Counts; 3], // of no edition, of the old layout, of edition two
     outgrown: u64,       // lengths of log that held the lines under one budget, and were too short under a larger one
     coherent: u64,       // logs of runs by which no rule both fires and is out
     alike: u64,          // tables with origins that ran like the same without them
     returned: u64,       // tables that came back from the other edition
+    claimed: u64,        // house rules of which S-7 promises that their heads have +∂
+    contested: u64,      // those of them against which a tour's rule fires
 }
 
 /// The k-th of the five sizes, or 0 if the table ends before it.
@@ -304,7 +402,7 @@ fn lines_differ(came: &str, wanted: &str) -> Option<String> {
 impl Bench {
     fn new(seed: u64) -> Bench {
         let mut rng = Rng(seed);
-        let base = (0..SCRATCH_MOST + 2 * GUARD).map(|_| rng.next() as u16).collect();
+        let base = (0..OUT_MOST + 2 * GUARD).map(|_| rng.next() as u16).collect();
         Bench {
             rng,
             base,
@@ -322,11 +420,14 @@ impl Bench {
             verdicts: [0; 6],
             standings: 0,
             conversions: 0,
+            joins: 0,
             counts: Default::default(),
             outgrown: 0,
             coherent: 0,
             alike: 0,
             returned: 0,
+            claimed: 0,
+            contested: 0,
         }
     }
 
@@ -549,8 +650,7 @@ impl Bench {
     }
 
     /// A lent length of the output: enough for the new file, or around its byte count.
-    fn out_len(&mut self, t: &Table) -> usize {
-        let new = new_len(t);
+    fn out_len(&mut self, new: usize) -> usize {
         let (more, less) = (self.rng.within(new, OUT_MOST), self.rng.below(new));
         if self.rng.chance(1, 32) {
             more
@@ -561,7 +661,7 @@ impl Bench {
 
     /// A table in the other edition, by an output of any length; and back, by one that is long enough. "each way giving the unique file"
     fn there_and_back(&mut self, t: &Table) {
-        let out_len = self.out_len(t);
+        let out_len = self.out_len(new_len(t));
         let Some(there) = self.convert(t, out_len) else { return };
         let out_len = new_len(&there) + self.rng.below(2);
         let back = self.convert(&there, out_len);
@@ -577,6 +677,87 @@ impl Bench {
         let new = new_len(t);
         for out_len in [0, 1, new.saturating_sub(2), less_one(new), new, new + 1, new + 40, OUT_MOST] {
             self.convert(t, out_len);
+        }
+    }
+
+    /// One call of fly_join and all that is compared for it: "A join that is turned away leaves the output untouched; otherwise its bytes past
+    /// the table are untouched." The join is the slow engine's, the edition the house's. What is joined must be as S-7 says.
+    fn join(&mut self, house: &Table, tour: &Table, join: &Join, out_len: usize) {
+        let (edition, expected) = (house.edition, join.answer(out_len));
+        let file: &[u8] = if expected.refused == 0 { &join.file } else { &[] };
+        let gap = vec![0xA5; self.rng.within(1, 8)];
+        let both = [&house.bytes[..], &gap, &tour.bytes].concat();
+        let at = self.lend_table(&both);
+        let out = self.lend_output(out_len);
+        let mut wanted = self.out.clone();
+        wanted[out.start..out.start + file.len()].copy_from_slice(file);
+        if mutant(86) && expected.refused == 0 && file.len() < out_len {
+            wanted[out.start + file.len()] = 0;
+        }
+        if mutant(87) && expected.refused != 0 && out_len != 0 {
+            wanted[out.start] = 2;
+        }
+        let (h, rest) = self.table[at..].split_at(house.bytes.len());
+        let (t, lent) = (&rest[gap.len()..][..tour.bytes.len()], self.out[out.clone()].as_mut_ptr());
+        let came = unsafe { fly_join(h.as_ptr(), h.len(), t.as_ptr(), t.len(), edition, lent, out_len) };
+        self.joins += 1;
+        let difference = written_differs(&came, &expected)
+            .or_else(|| elements_differ("output byte", &self.out, &wanted, out.start))
+            .or_else(|| self.table_altered(at, &both));
+        if let Some(what) = difference {
+            let call = format!("join {} after call {} edition {edition} out_len {out_len}", self.joins, self.calls);
+            let tables = format!("tour  ({} bytes) {}\n{call}", tour.bytes.len(), hex(&tour.bytes));
+            let numbers = format!("archive {came:?}\nslow    {expected:?}");
+            let files = format!("archive output {}\nslow    file   {}", hex(&self.out[out]), hex(file));
+            self.mismatch(&format!("join: {what}"), &house.bytes, format!("{tables}\n{numbers}\n{files}"));
+        }
+        self.counts(house).joins.count(join, &expected, out_len);
+        if came.refused == 0 {
+            let joined = Table { edition, bytes: self.out[out][..came.bytes as usize].to_vec() };
+            self.house_prevails(&joined, rules(house) as usize);
+        }
+    }
+
+    /// A house and a tour joined, by an output of any length.
+    fn join_any(&mut self, house: &Table, tour: &Table) {
+        let join = slow::join(&house.bytes, &tour.bytes, house.edition);
+        let new = if join.len == 0 { house.bytes.len() + tour.bytes.len() } else { join.len };
+        let out_len = self.out_len(new.min(OUT_MOST - 64));
+        self.join(house, tour, &join, out_len);
+    }
+
+    /// "The result is always free of circles", and legal otherwise: it runs to its finish. By these lines "a strict or defeasible house rule
+    /// that fires gives its head +∂ wherever no house rule attacks it and the head's complement has −Δ." The first n rules are the house's.
+    fn house_prevails(&mut self, joined: &Table, n: usize) {
+        let answer = if rules(joined) <= 200 { self.enough(joined, u32::MAX) } else { self.alone(joined) };
+        if answer.refused != 0 || answer.finished != 1 {
+            self.mismatch("a joined table does not run to its finish", &joined.bytes, format!("archive {answer:?}"));
+        }
+        let claim = slow::claim(&joined.bytes, joined.edition, n, &self.lines);
+        if let Some(rule) = claim.broken {
+            let log = format!("rules of the house {n}\narchive log {:?}", self.lines);
+            self.mismatch(&format!("house rule {rule} fires, and its head lacks +∂"), &joined.bytes, log);
+        }
+        self.claimed += claim.claimed;
+        self.contested += claim.contested;
+    }
+
+    /// A run of the archive alone to its finish, of a table that the slow engine takes long for.
+    fn alone(&mut self, t: &Table) -> Answer {
+        let (log, scratch) = self.lend_buffers(LOG_MOST, SCRATCH);
+        let (log_lent, scratch) = (self.log[log.clone()].as_mut_ptr(), self.scratch[scratch].as_mut_ptr());
+        let table = &t.bytes;
+        let answer = unsafe { fly_run(table.as_ptr(), table.len(), t.edition, u32::MAX, log_lent, LOG_MOST, scratch, SCRATCH) };
+        self.lines = self.log[log][..(answer.lines as usize).min(LOG_MOST)].to_vec();
+        answer
+    }
+
+    /// Every output length around the byte count of the joined file.
+    fn joined_lengths(&mut self, house: &Table, tour: &Table) {
+        let join = slow::join(&house.bytes, &tour.bytes, house.edition);
+        let new = join.len.min(OUT_MOST - 64);
+        for out_len in [0, 1, new.saturating_sub(2), less_one(new), new, new + 1, new + 40, OUT_MOST] {
+            self.join(house, tour, &join, out_len);
         }
     }
 
@@ -842,6 +1023,42 @@ impl Bench {
         let answer = self.any(&t, any);
         self.some_stand(&t, of_table(&answer), 1);
         self.there_and_back(&t);
+        self.join_any(&t, &t);
+    }
+
+    /// Small houses and tours, legal and damaged on either side, in both editions.
+    fn couples(&mut self) {
+        for i in 0..42 {
+            let [house, tour] = tables::couple(&mut self.rng);
+            let edition = self.rng.pick(&[OLD, TWO]);
+            let (bad_house, bad_tour) = (i % 3 == 1, i % 3 == 2 || i % 9 == 1);
+            let house = self.perhaps_damaged(house, edition, bad_house);
+            let tour = self.perhaps_damaged(tour, edition, bad_tour);
+            self.join_any(&house, &tour);
+        }
+    }
+
+    /// A legal table; or one with faults, or, more seldom, its first bytes alone or bytes that were never a table.
+    fn perhaps_damaged(&mut self, d: Draft, edition: u32, damaged: bool) -> Table {
+        if !damaged {
+            return self.legal(&d, edition);
+        }
+        match self.rng.below(12) {
+            0 => tables::noise(&mut self.rng, edition),
+            1 => Table { edition, bytes: d.table(edition).bytes[..self.rng.below(10)].to_vec() },
+            _ => tables::damaged(&mut self.rng, d, edition),
+        }
+    }
+
+    /// Larger houses and tours, and some whose joined sizes are around a limit.
+    fn great_couples(&mut self) {
+        for i in 0..4 {
+            let shape = self.rng.below(tables::COUPLE_SHAPES);
+            let couple = if i < 2 { tables::medium_couple(&mut self.rng) } else { tables::great_couple(&mut self.rng, shape) };
+            let edition = self.rng.pick(&[OLD, TWO]);
+            let [house, tour] = couple.map(|d| self.legal(&d, edition));
+            self.join_any(&house, &tour);
+        }
     }
 
     /// A draft with faults, under `count` budgets.
@@ -855,7 +1072,7 @@ impl Bench {
         }
     }
 
-    /// A random part of about 195 calls, 13 sheets, 140 standings and 60 conversions.
+    /// A random part of about 205 calls, 13 sheets, 140 standings, 60 conversions and 47 joins.
     fn round(&mut self, number: u64) {
         let edition = if number % 4 == 3 { TWO } else { OLD };
         self.place = format!("round {number}");
@@ -875,6 +1092,8 @@ impl Bench {
         self.there_and_back(&t);
         self.sheet(&t.bytes);
         self.damaged(&d, edition, 1);
+        self.couples();
+        self.great_couples();
         if number % 17 == 0 {
             let d = tables::large(&mut self.rng);
             let t = self.legal(&d, edition);
@@ -896,6 +1115,8 @@ impl Bench {
         self.two_rules();
         self.big_tables();
         self.circles();
+        self.bytes_of_a_couple();
+        self.joined_sizes();
     }
 
     fn bytes_of_case_1(&mut self, case_1: &Table) {
@@ -1009,6 +1230,32 @@ impl Bench {
         }
     }
 
+    /// Every byte of case 1 at every value, as the house and as the tour of a join with case 1.
+    fn bytes_of_a_couple(&mut self) {
+        for whole in [case_1(), with_origins(&case_1())] {
+            self.place = format!("every byte of a house and of a tour in edition {} at every value", whole.edition);
+            for i in 0..whole.bytes.len() {
+                for value in 0..=255 {
+                    let mut t = whole.clone();
+                    t.bytes[i] = value;
+                    self.join_any(&t, &whole);
+                    self.join_any(&whole, &t);
+                }
+            }
+        }
+    }
+
+    /// Joined sizes around each limit, and all at their limits.
+    fn joined_sizes(&mut self) {
+        for shape in 0..tables::COUPLE_SHAPES {
+            self.place = format!("joined sizes of shape {shape}");
+            for edition in [OLD, TWO].repeat(8) {
+                let [house, tour] = tables::great_couple(&mut self.rng, shape).map(|d| self.legal(&d, edition));
+                self.joined_lengths(&house, &tour);
+            }
+        }
+    }
+
     /// The limits of every size, and past the end of the longest table.
     fn big_tables(&mut self) {
         for shape in 0..tables::BIG_SHAPES {
@@ -1110,6 +1357,22 @@ impl Bench {
         self.convert(t, out_len);
     }
 
+    /// A join that must be given, against both engines, likewise; 0 or the refusal, and the joined file.
+    fn gives_join(&mut self, house: &Table, tour: &Table, out_len: usize, refused: u32, wanted: &[u8]) {
+        let join = slow::join(&house.bytes, &tour.bytes, house.edition);
+        let came = join.answer(out_len);
+        let file: &[u8] = if came.refused == 0 { &join.file } else { &[] };
+        let difference = written_differs(&came, &Written { refused, bytes: wanted.len() as u32 })
+            .or_else(|| elements_differ("byte", file, wanted, 0))
+            .filter(|_| mutant(0));
+        if let Some(what) = difference {
+            let call = format!("tour {}\nedition {} out_len {out_len}", hex(&tour.bytes), house.edition);
+            let files = format!("slow   {came:?} {}\nwanted {refused} {}", hex(file), hex(wanted));
+            self.mismatch(&format!("slow engine: join: {what}"), &house.bytes, format!("{call}\n{files}"));
+        }
+        self.join(house, tour, &join, out_len);
+    }
+
     /// A refusal of the table, which every call must give, whatever is lent and whatever rule is named.
     fn gives_refusal(&mut self, t: &Table, number: u32) {
         self.gives(t, u32::MAX, LOG_MOST, SCRATCH, &refusal(number));
@@ -1119,6 +1382,7 @@ impl Bench {
         }
         for out_len in [0, new_len(t), OUT_MOST] {
             self.gives_conversion(t, out_len, number, &[]);
+            self.gives_join(t, t, out_len, number, &[]);
         }
     }
 
@@ -1167,6 +1431,8 @@ impl Bench {
         self.standing_cases();
         self.edition_cases();
         self.left_words();
+        self.join_cases();
+        self.join_orders();
     }
 
     fn standing_cases(&mut self) {
@@ -1233,6 +1499,53 @@ impl Bench {
         }
     }
 
+    /// In the old layout, in edition two, and there with origins, which are kept; by outputs around the byte count of the file.
+    fn join_cases(&mut self) {
+        for (name, house, tour, joined) in joins() {
+            self.place = format!("document 02, S-7: {name}");
+            let kept = with_these(&joined, &[origins(&house), origins(&tour)].concat());
+            let in_two = (two(&house), two(&tour), two(&joined));
+            let owned = (with_origins(&house), with_origins(&tour), kept);
+            for (house, tour, joined) in [(house, tour, joined), in_two, owned] {
+                let n = joined.bytes.len();
+                for out_len in [0, 1, n - 1] {
+                    self.gives_join(&house, &tour, out_len, 12, &[]);
+                }
+                for out_len in [n, n + 1, n + 40, OUT_MOST] {
+                    self.gives_join(&house, &tour, out_len, 0, &joined.bytes);
+                }
+            }
+        }
+    }
+
+    /// "Order: 1 to 7 on the house, the same on the tour, 11, 2 on the joined sizes, 12."
+    fn join_orders(&mut self) {
+        for (number, bad) in (1..).zip(refused()) {
+            for (other, worse) in (1..).zip(refused()) {
+                self.place = format!("document 02, S-7: a house refused by {number}, a tour by {other}");
+                self.refuses_join(&bad, &worse, number);
+            }
+            for good in [case_1(), old(&[0; 10])] {
+                self.place = format!("document 02, S-7: a table refused by {number}, another accepted");
+                self.refuses_join(&bad, &good, number);
+                self.refuses_join(&good, &bad, number);
+            }
+        }
+        for (name, house, tour, number) in refused_joins() {
+            self.place = format!("document 02, S-7: {name}");
+            self.refuses_join(&house, &tour, number);
+        }
+    }
+
+    /// Two tables whose join is refused, in both editions and whatever the output.
+    fn refuses_join(&mut self, house: &Table, tour: &Table, number: u32) {
+        for (house, tour) in [(house.clone(), tour.clone()), (two(house), two(tour)), (with_origins(house), with_origins(tour))] {
+            for out_len in [0, 34, OUT_MOST] {
+                self.gives_join(&house, &tour, out_len, number, &[]);
+            }
+        }
+    }
+
     /// base.bin, against both engines.
     fn base_vectors(&mut self, dir: &str) {
         let mut r = Reader::open(dir, "base.bin");
@@ -1279,6 +1592,20 @@ impl Bench {
         r.end();
     }
 
+    /// joins.bin, against both engines.
+    fn join_vectors(&mut self, dir: &str) {
+        let mut r = Reader::open(dir, "joins.bin");
+        while r.at < r.bytes.len() {
+            self.place = r.place();
+            let [house, tour] = [(); 2].map(|_| r.field());
+            let [edition, out_len, refused] = [(); 3].map(|_| r.number());
+            let [house, tour] = [house, tour].map(|bytes| Table { edition, bytes });
+            self.gives_join(&house, &tour, out_len as usize, refused, &r.field());
+            r.record += 1;
+        }
+        r.end();
+    }
+
     /// sheets-S6.bin, against both engines.
     fn sheet_vectors(&mut self, dir: &str) {
         let mut r = Reader::open(dir, "sheets-S6.bin");
@@ -1304,6 +1631,9 @@ impl Bench {
             counted("coherent logs", self.coherent, 10_000),
             counted("tables that ran alike with origins and without", self.alike, 5_000),
             counted("tables converted there and back", self.returned, 20_000),
+            counted("joins", self.joins, 50_000),
+            counted("house rules that S-7 is about", self.claimed, 20_000),
+            counted("house rules that S-7 is about, a tour's rule against it firing", self.contested, 5_000),
         ];
         list.extend(VERDICTS.iter().zip(self.verdicts).map(|(word, came)| counted(word, came, 2_000)));
         list.extend(old.list("old layout: ", 10_000));
@@ -1313,6 +1643,7 @@ impl Bench {
             counted("no edition: refused 1:", none.refused[1], 1_000),
             counted("no edition: standings refused 1:", none.not_stood[1], 1_000),
             counted("no edition: conversions refused 1:", none.not_converted[1], 1_000),
+            counted("no edition: joins refused 1:", none.joins.of_house[1], 1_000),
         ]);
         list.iter().for_each(|(what, came, _)| println!("{what} {came}"));
         println!("mismatches 0");
@@ -1341,15 +1672,25 @@ fn two(t: &Table) -> Table {
     Table::of(TWO, &t.bytes)
 }
 
-/// The table in edition two, its rules with origins 1, 2, 3, 1 and so on.
-fn with_origins(t: &Table) -> Table {
+/// The table in edition two, its rules with these origins.
+fn with_these(t: &Table, origins: &[usize]) -> Table {
     let (mut two, first) = (two(t), 11 + 2 * size(t, 1));
-    for (i, origin) in (0..size(t, 2)).zip([1, 2, 3].into_iter().cycle()) {
+    for (i, &origin) in origins.iter().enumerate() {
         if let Some(low) = two.bytes.get_mut(first + 2 * i) {
-            *low += 4 * origin;
+            *low += 4 * origin as u8;
         }
     }
     two
+}
+
+/// 1, 2, 3, 1 and so on, for each rule.
+fn origins(t: &Table) -> Vec<usize> {
+    (0..size(t, 2)).map(|i| i % 3 + 1).collect()
+}
+
+/// The table in edition two, its rules with those origins.
+fn with_origins(t: &Table) -> Table {
+    with_these(t, &origins(t))
 }
 
 /// The table as it is, in edition two, and there with origins.
@@ -1564,6 +1905,94 @@ fn conversions() -> Vec<Conversion> {
     ]
 }
 
+/// What it is, the house, the tour and the joined table, in the old layout.
+type Joined = (&'static str, Table, Table, Table);
+
+fn joins() -> Vec<Joined> {
+    let (one, empty, atoms) = (case_1(), old(&[0; 10]), table(2, &[], &[], &[]));
+    let twice = table(2, &[0], &[(1, 2, &[0]), (1, 3, &[]), (1, 2, &[0]), (1, 3, &[])], &[(0, 1), (0, 3), (1, 2), (2, 3)]);
+    let facts = |facts: &[usize]| table(3, facts, &[], &[]);
+    let rules = |rules: &[(usize, usize)], pairs: &[(usize, usize)]| {
+        let rules: Vec<(usize, usize, &[usize])> = rules.iter().map(|&(kind, head)| (kind, head, &[][..])).collect();
+        table(1, &[], &rules, pairs)
+    };
+    vec![
+        ("two empty tables", empty.clone(), empty.clone(), empty),
+        ("case 1 and nothing", one.clone(), atoms.clone(), one.clone()),
+        ("nothing and case 1", atoms, one.clone(), one.clone()),
+        ("case 1 and case 1", one.clone(), one, twice),
+        ("facts of one, of the other and of both", facts(&[0, 3, 5]), facts(&[1, 3, 4]), facts(&[0, 1, 3, 4, 5])),
+        ("a rule for and a rule for", rules(&[(1, 0)], &[]), rules(&[(1, 0)], &[]), rules(&[(1, 0), (1, 0)], &[])),
+        ("a rule for and a rule against", rules(&[(1, 0)], &[]), rules(&[(1, 1)], &[]), rules(&[(1, 0), (1, 1)], &[(0, 1)])),
+        ("a rule against and a rule for", rules(&[(1, 1)], &[]), rules(&[(1, 0)], &[]), rules(&[(1, 1), (1, 0)], &[(0, 1)])),
+        ("a strict rule of the tour", rules(&[(1, 1)], &[]), rules(&[(0, 0)], &[]), rules(&[(1, 1), (0, 0)], &[(0, 1)])),
+        ("a defeater of the house", rules(&[(2, 1)], &[]), rules(&[(1, 0)], &[]), rules(&[(2, 1), (1, 0)], &[(0, 1)])),
+        ("a defeater of the tour", rules(&[(1, 0)], &[]), rules(&[(2, 1)], &[]), rules(&[(1, 0), (2, 1)], &[(0, 1)])),
+        ("two defeaters", rules(&[(2, 0)], &[]), rules(&[(2, 1)], &[]), rules(&[(2, 0), (2, 1)], &[(0, 1)])),
+        (
+            "entries and pairs of both, with added pairs among them",
+            table(2, &[2], &[(1, 0, &[2, 3]), (0, 1, &[2]), (2, 2, &[])], &[(0, 2), (1, 0)]),
+            table(2, &[2], &[(1, 3, &[0]), (1, 1, &[]), (0, 0, &[1, 2])], &[(1, 0), (2, 1)]),
+            table(
+                2,
+                &[2],
+                &[(1, 0, &[2, 3]), (0, 1, &[2]), (2, 2, &[]), (1, 3, &[0]), (1, 1, &[]), (0, 0, &[1, 2])],
+                &[(0, 2), (0, 4), (1, 0), (1, 5), (2, 3), (4, 3), (5, 4)],
+            ),
+        ),
+        ("32 rules and 64 against them", crowd(1, 32, 0), crowd(1, 64, 1), crowds(32, 64)),
+        ("64 rules and 32 against them", crowd(1, 64, 0), crowd(1, 32, 1), crowds(64, 32)),
+        ("1,024 rules", crowd(1, 512, 0), crowd(1, 512, 0), crowd(1, 1_024, 0)),
+    ]
+}
+
+/// Rules for a literal, over `a` atoms.
+fn crowd(a: usize, n: usize, head: usize) -> Table {
+    table(a, &[], &vec![(1, head, &[][..]); n], &[])
+}
+
+/// The join of n rules for a literal with m against it.
+fn crowds(n: usize, m: usize) -> Table {
+    let rules: Vec<(usize, usize, &[usize])> = (0..n + m).map(|r| (1, (r >= n) as usize, &[][..])).collect();
+    let pairs: Vec<(usize, usize)> = (0..n).flat_map(|h| (n..n + m).map(move |t| (h, t))).collect();
+    table(1, &[], &rules, &pairs)
+}
+
+/// Rules for literal 0, each resting on `body`, over 512 atoms.
+fn resting(n: usize, body: &[usize]) -> Table {
+    table(512, &[], &vec![(1, 0, body); n], &[])
+}
+
+/// n rules for a literal, and so many pairs of them.
+fn ranked(n: usize, count: usize) -> Table {
+    let pairs: Vec<(usize, usize)> = (0..n).flat_map(|t| (t + 1..n).map(move |s| (t, s))).take(count).collect();
+    table(1, &[], &vec![(1, 0, &[][..]); n], &pairs)
+}
+
+/// What it is, the house and the tour, and the number.
+fn refused_joins() -> Vec<(&'static str, Table, Table, u32)> {
+    let all: Vec<usize> = (0..1_024).collect();
+    vec![
+        ("one atom and two", crowd(1, 1, 0), crowd(2, 1, 0), 11),
+        ("two atoms and one", crowd(2, 1, 0), crowd(1, 1, 0), 11),
+        ("no atom and one", old(&[0; 10]), crowd(1, 0, 0), 11),
+        ("512 atoms and 511", old(&tables::sized(0, 512)), old(&tables::sized(0, 511)), 11),
+        ("other atoms, and 1,025 rules", crowd(1, 1_024, 0), crowd(2, 1, 0), 11),
+        ("other atoms, and 2,079 added pairs", crowd(1, 33, 0), crowd(2, 63, 1), 11),
+        ("1,025 rules", crowd(1, 512, 0), crowd(1, 513, 0), 2),
+        ("2,048 rules", crowd(1, 1_024, 0), crowd(1, 1_024, 0), 2),
+        ("4,097 entries", resting(1, &all[..1]), resting(4, &all), 2),
+        ("8,192 entries", resting(4, &all), resting(4, &all), 2),
+        ("4,098 entries, 2,048 of them the house's", resting(2, &all), resting(50, &all[..41]), 2),
+        ("2,049 pairs, none of them added", ranked(65, 2_048), ranked(2, 1), 2),
+        ("4,096 pairs, none of them added", ranked(65, 2_048), ranked(65, 2_048), 2),
+        ("2,079 added pairs", crowd(1, 33, 0), crowd(1, 63, 1), 2),
+        ("2,048 added pairs, and one of the house's", ranked(32, 1), crowd(1, 64, 1), 2),
+        ("65,536 added pairs", crowd(1, 256, 0), crowd(1, 256, 1), 2),
+        ("262,144 added pairs", crowd(1, 512, 0), crowd(1, 512, 1), 2),
+    ]
+}
+
 /// What it is, the table and its sheet.
 fn sheets() -> Vec<(&'static str, Table, &'static str)> {
     vec![
@@ -1738,6 +2167,7 @@ fn main() {
         bench.sheet_vectors(&dir);
         bench.short_log_vectors(&dir);
         bench.edition_vectors(&dir);
+        bench.join_vectors(&dir);
     }
     bench.last = bench.calls + calls;
     bench.cases();

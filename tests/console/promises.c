@@ -33,6 +33,17 @@ static const uint8_t TWO_BYTES[31] = {2, 2, 0, 1, 0, 2, 0, 1, 0, 1, 0, 0, 0, 1, 
 static const uint8_t ORIGIN_BYTES[31] = {2, 2, 0, 1, 0, 2, 0, 1, 0, 1, 0, 0, 0, 13, 0, 5, 0, 0, 0, 0, 0, 0, 0, 2, 0, 3, 0, 0, 0, 1, 0};
 static const uint8_t ABOVE_BYTES[31] = {2, 2, 0, 1, 0, 2, 0, 1, 0, 1, 0, 0, 0, 13, 0, 17, 0, 0, 0, 0, 0, 0, 0, 2, 0, 3, 0, 0, 0, 1, 0};
 
+/* case 1 joined with itself: in the old layout, and the one with origins with itself */
+static const uint8_t TWICE_BYTES[54] = {2, 0, 1, 0, 4, 0, 2, 0, 4, 0,
+                                        0, 0, 1, 0, 1, 0, 1, 0, 1, 0, 0, 0, 2, 0, 0, 0, 0, 0, 1, 0, 2, 0,
+                                        0, 0, 2, 0, 3, 0, 2, 0, 3, 0, 0, 0, 0, 0, 1, 0, 3, 0, 2, 0, 3, 0};
+static const uint8_t TWICE_ORIGINS_BYTES[55] = {2, 2, 0, 1, 0, 4, 0, 2, 0, 4, 0,
+                                                0, 0, 13, 0, 5, 0, 13, 0, 5, 0, 0, 0, 2, 0, 0, 0, 0, 0, 1, 0, 2, 0,
+                                                0, 0, 2, 0, 3, 0, 2, 0, 3, 0, 0, 0, 0, 0, 1, 0, 3, 0, 2, 0, 3, 0};
+
+/* as many atoms as case 1 has, and as many as there can be, and nothing else */
+static const uint8_t TWO_ATOMS_BYTES[11] = {2, 2, 0, 0, 0, 0, 0, 0, 0, 0, 0}, MOST_ATOMS_BYTES[11] = {2, 0, 2, 0, 0, 0, 0, 0, 0, 0, 0};
+
 static const table CASE_1 = {"case 1", FLY_OLD, BYTES_1, sizeof BYTES_1, LOG_1, "atoms 2\n0 go\n1 go\nspent 17 of 19\n"};
 static const table ITSELF = {"a rule from a literal to itself", FLY_OLD, ITSELF_BYTES, sizeof ITSELF_BYTES, ITSELF_LOG,
                              "atoms 1\n0 open\nspent 6 of 9\n"};
@@ -50,6 +61,13 @@ static const table STUB_TWO = {"the first byte and nine more", FLY_TWO, TWO_BYTE
 static const table SHORT_TWO = {"case 1 in edition two but for a byte", FLY_TWO, TWO_BYTES, 30, NULL, "refused 2\n"};
 static const table OLD_AS_TWO = {"the circle as edition two", FLY_TWO, CIRCLE_BYTES, sizeof CIRCLE_BYTES, NULL, "refused 7\n"};
 static const table ABOVE_3 = {"a rule of origin 4", FLY_TWO, ABOVE_BYTES, sizeof ABOVE_BYTES, NULL, "refused 2\n"};
+
+static const table TWICE = {"case 1 twice", FLY_OLD, TWICE_BYTES, sizeof TWICE_BYTES, NULL, NULL};
+static const table TWICE_ORIGINS = {"case 1 with origins twice", FLY_TWO, TWICE_ORIGINS_BYTES, sizeof TWICE_ORIGINS_BYTES, NULL, NULL};
+static const table TWO_ATOMS = {"two atoms", FLY_OLD, TWO_ATOMS_BYTES + 1, 10, NULL, NULL};
+static const table TWO_ATOMS_TWO = {"two atoms in edition two", FLY_TWO, TWO_ATOMS_BYTES, 11, NULL, NULL};
+static const table MOST_ATOMS = {"512 atoms", FLY_OLD, MOST_ATOMS_BYTES + 1, 10, NULL, NULL};
+static const table MOST_ATOMS_TWO = {"512 atoms in edition two", FLY_TWO, MOST_ATOMS_BYTES, 11, NULL, NULL};
 
 /* ---- the table at its limits, which tests/cases/write.py has too ---- */
 
@@ -99,6 +117,47 @@ static void make_editions(void) {
     memcpy(limits_two + 1, limits_bytes, FLY_MAX_BYTES);
     memcpy(limits_origins, limits_two, sizeof limits_two);
     for (size_t k = 0; k < RULES; k++) limits_origins[1 + 2 * (5 + FACTS + k)] |= (uint8_t)(4 * (k / 3 % 4));
+}
+
+/* Rules for a literal of one atom in a house, rules against it in two tours; and the join with the first, which adds as many pairs as there
+ * can be. */
+enum { HOUSE_RULES = 32, TOUR_RULES = 64, JOINED_RULES = HOUSE_RULES + TOUR_RULES, ADDED = HOUSE_RULES * TOUR_RULES };
+static uint8_t house_bytes[10 + 4 * HOUSE_RULES], tour_bytes[10 + 4 * TOUR_RULES], larger_bytes[10 + 4 * (TOUR_RULES + 1)];
+static uint8_t joined_bytes[10 + 4 * (JOINED_RULES + ADDED)];
+static const table HOUSE = {"32 rules", FLY_OLD, house_bytes, sizeof house_bytes, NULL, NULL};
+static const table TOUR = {"64 rules against them", FLY_OLD, tour_bytes, sizeof tour_bytes, NULL, NULL};
+static const table LARGER = {"65 rules against them", FLY_OLD, larger_bytes, sizeof larger_bytes, NULL, NULL};
+static const table JOINED = {"32 rules over 64", FLY_OLD, joined_bytes, sizeof joined_bytes, NULL, NULL};
+
+static void make_sizes(uint8_t *bytes, size_t rules, size_t pairs) {
+    bytes[0] = 1;
+    bytes[4] = (uint8_t)rules;
+    bytes[8] = (uint8_t)pairs;
+    bytes[9] = (uint8_t)(pairs >> 8);
+}
+
+/* Defeasible rules with this head, in a table that has `places` of all kinds, from this place on. */
+static void make_rules(uint8_t *bytes, size_t places, size_t from, size_t rules, uint8_t head) {
+    for (size_t i = from; i < from + rules; i++) {
+        bytes[10 + 2 * i] = 1;
+        bytes[10 + 2 * (places + i)] = head;
+    }
+}
+
+static void make_couple(void) {
+    make_sizes(house_bytes, HOUSE_RULES, 0);
+    make_rules(house_bytes, HOUSE_RULES, 0, HOUSE_RULES, 0);
+    make_sizes(tour_bytes, TOUR_RULES, 0);
+    make_rules(tour_bytes, TOUR_RULES, 0, TOUR_RULES, 1);
+    make_sizes(larger_bytes, TOUR_RULES + 1, 0);
+    make_rules(larger_bytes, TOUR_RULES + 1, 0, TOUR_RULES + 1, 1);
+    make_sizes(joined_bytes, JOINED_RULES, ADDED);
+    make_rules(joined_bytes, JOINED_RULES + ADDED, 0, HOUSE_RULES, 0);
+    make_rules(joined_bytes, JOINED_RULES + ADDED, HOUSE_RULES, TOUR_RULES, 1);
+    for (size_t k = 0; k < ADDED; k++) {
+        joined_bytes[10 + 2 * (JOINED_RULES + k)] = (uint8_t)(k / TOUR_RULES);
+        joined_bytes[10 + 2 * (2 * JOINED_RULES + ADDED + k)] = (uint8_t)(HOUSE_RULES + k % TOUR_RULES);
+    }
 }
 
 /* Every literal is a fact: the opening writes +Δ of each, and working that line writes +∂. */
@@ -233,6 +292,22 @@ static void converts(const table *t, size_t out_len, uint32_t refused, const tab
     table_left(call, bytes, t);
 }
 
+/* Likewise; the edition is the house's. */
+static void joins(const table *house, const table *tour, size_t out_len, uint32_t refused, const table *file) {
+    char call[192];
+    snprintf(call, sizeof call, "%s and %s (output %zu)", house->name, tour->name, out_len);
+    uint8_t *house_lent = lend_table(house), *tour_lent = lend_table(tour), *out = guarded(out_len);
+    size_t n = refused ? 0 : file->n;
+    for (size_t i = 0; i < out_len; i++) out[i] = (uint8_t)noise(i);
+    fly_written w = fly_join(house_lent, house->n, tour_lent, tour->n, house->edition, out, out_len);
+    same(call, "refused", NUMBER, w.refused, refused);
+    same(call, "bytes", NUMBER, w.bytes, n);
+    for (size_t i = 0; i < out_len; i++) same(call, "output byte", i, out[i], i < n ? file->bytes[i] : (uint8_t)noise(i));
+    give_back(out, out_len);
+    table_left(call, house_lent, house);
+    table_left(call, tour_lent, tour);
+}
+
 /* The table's refusal comes before that of a rule number, and of what is lent. */
 static void refuses(const table *t, uint32_t number) {
     static const uint32_t NUMBERS[4] = {0, 1, 65536, UINT32_MAX};
@@ -241,6 +316,8 @@ static void refuses(const table *t, uint32_t number) {
     for (size_t i = 0; i < 4; i++) stands(t, NUMBERS[i], LOG_1, 8, (fly_standing){number, 0});
     converts(t, 0, number, NULL);
     converts(t, FLY_MAX_TWO, number, NULL);
+    joins(t, t, 0, number, NULL);
+    joins(t, t, FLY_MAX_TWO, number, NULL);
 }
 
 static void prints(const table *t) {
@@ -364,6 +441,48 @@ static void converts_both_ways(const table *old, const table *two, const table *
     converts(origins, old->n + MORE, FLY_HAS_ORIGIN, NULL);
 }
 
+/* ---- a house and a tour ---- */
+
+/* A byte of output less than the joined file, as much, and more. */
+static void joins_by_lengths(const table *house, const table *tour, const table *joined) {
+    joins(house, tour, 0, FLY_SHORT_OUTPUT, NULL);
+    joins(house, tour, joined->n - 1, FLY_SHORT_OUTPUT, NULL);
+    joins(house, tour, joined->n, 0, joined);
+    joins(house, tour, joined->n + MORE, 0, joined);
+}
+
+/* The house's refusal comes first, then the tour's, other atoms, joined sizes and a short output. */
+static void joins_in_order(void) {
+    joins(&CIRCLE, &STUB, 0, FLY_CYCLIC, NULL);
+    joins(&STUB, &CIRCLE, 0, FLY_TRUNCATED, NULL);
+    joins(&CASE_1, &CIRCLE, 0, FLY_CYCLIC, NULL);
+    joins(&CIRCLE, &CASE_1, FLY_MAX_TWO, FLY_CYCLIC, NULL);
+    joins(&CASE_1, &SHORT, FLY_MAX_TWO, FLY_WRONG_LENGTH, NULL);
+    joins(&CASE_1, &ORIGINS, FLY_MAX_TWO, FLY_TOO_LARGE, NULL); /* read in the old layout, as the house */
+    joins(&ORIGINS, &CASE_1, FLY_MAX_TWO, FLY_WRONG_LENGTH, NULL);
+    joins(&CASE_1, &OLD_ORIGINS, FLY_MAX_TWO, FLY_BAD_KIND, NULL);
+    joins(&CASE_1, &ITSELF, 0, FLY_ATOMS_DIFFER, NULL);
+    joins(&LIMITS, &ITSELF, 0, FLY_ATOMS_DIFFER, NULL); /* and 1,025 rules */
+    joins(&LIMITS, &LIMITS, 0, FLY_TOO_LARGE, NULL);
+    joins(&LIMITS_ORIGINS, &LIMITS_TWO, FLY_MAX_TWO, FLY_TOO_LARGE, NULL);
+    joins(&HOUSE, &LARGER, 0, FLY_TOO_LARGE, NULL);
+    joins(&HOUSE, &LARGER, FLY_MAX_TWO, FLY_TOO_LARGE, NULL);
+}
+
+static void couples(void) {
+    joins_by_lengths(&CASE_1, &CASE_1, &TWICE);
+    joins_by_lengths(&ORIGINS, &ORIGINS, &TWICE_ORIGINS);
+    joins_by_lengths(&CASE_1, &TWO_ATOMS, &CASE_1);
+    joins_by_lengths(&TWO_ATOMS, &CASE_1, &CASE_1);
+    joins_by_lengths(&ORIGINS, &TWO_ATOMS_TWO, &ORIGINS);
+    joins_by_lengths(&TWO_ATOMS_TWO, &TWO, &TWO);
+    joins_by_lengths(&LIMITS, &MOST_ATOMS, &LIMITS);
+    joins_by_lengths(&MOST_ATOMS, &LIMITS, &LIMITS);
+    joins_by_lengths(&LIMITS_ORIGINS, &MOST_ATOMS_TWO, &LIMITS_ORIGINS);
+    joins_by_lengths(&HOUSE, &TOUR, &JOINED);
+    joins_in_order();
+}
+
 /* ---- threads ---- */
 
 static void *again(void *unused) {
@@ -379,6 +498,9 @@ static void *again(void *unused) {
         converts(&CASE_1, 31, 0, &TWO);
         converts(&TWO, 30, 0, &CASE_1);
         converts(&ORIGINS, 30, FLY_HAS_ORIGIN, NULL);
+        joins(&CASE_1, &CASE_1, 54, 0, &TWICE);
+        joins(&ORIGINS, &ORIGINS, 55 + MORE, 0, &TWICE_ORIGINS);
+        joins(&CASE_1, &ITSELF, 54, FLY_ATOMS_DIFFER, NULL);
     }
     return unused;
 }
@@ -397,8 +519,8 @@ enum { STACK = 1 << 20 };
 
 static void *no_call(void *of) { return of; }
 
-/* A call, by its table; also the budget of a run or the rule that stands, the words of log or bytes of output, and the refusal that
- * comes of them. */
+/* A call, by its table; also the budget of a run, the rule that stands or the place in TOURS of what is joined, the words of log or bytes of
+ * output, and the refusal that comes of them. */
 typedef struct {
     const table *of;
     uint32_t number;
@@ -433,6 +555,16 @@ static void *convert_call(void *call) {
     static uint8_t out[FLY_MAX_TWO];
     const one_call *c = call;
     CHECK(fly_convert(c->of->bytes, c->of->n, c->of->edition, out, c->length).refused == c->refused);
+    return call;
+}
+
+static const table *const TOURS[] = {&CASE_1, &ORIGINS, &TOUR, &LARGER, &MOST_ATOMS, &LIMITS, &LIMITS_ORIGINS};
+
+static void *join_call(void *call) {
+    static uint8_t out[FLY_MAX_TWO];
+    const one_call *c = call;
+    const table *tour = TOURS[c->number];
+    CHECK(fly_join(c->of->bytes, c->of->n, tour->bytes, tour->n, c->of->edition, out, c->length).refused == c->refused);
     return call;
 }
 
@@ -487,13 +619,23 @@ static void stack_use(void) {
                                            {&LIMITS, 0, FLY_MAX_BYTES, FLY_SHORT_LOG},
                                            {&LIMITS_TWO, 0, FLY_MAX_BYTES, 0},
                                            {&LIMITS_ORIGINS, 0, FLY_MAX_BYTES, FLY_HAS_ORIGIN}};
+    static const one_call JOINS[] = {{&CASE_1, 0, 54, 0},
+                                     {&ORIGINS, 1, 55, 0},
+                                     {&HOUSE, 2, FLY_MAX_TWO, 0},
+                                     {&HOUSE, 3, FLY_MAX_TWO, FLY_TOO_LARGE},
+                                     {&LIMITS, 4, FLY_MAX_BYTES, 0},
+                                     {&LIMITS, 4, FLY_MAX_BYTES - 1, FLY_SHORT_OUTPUT},
+                                     {&LIMITS, 5, FLY_MAX_BYTES, FLY_TOO_LARGE},
+                                     {&MOST_ATOMS, 5, FLY_MAX_TWO, 0},
+                                     {&MOST_ATOMS_TWO, 6, FLY_MAX_TWO, 0}};
     size_t run = stack_of("the run", run_call, FULL, 4, FLY_RUN_STACK);
     size_t short_log = stack_of("the short-log run", run_call, SHORT_LOGS, 7, FLY_SHORT_LOG_STACK);
     size_t sheet = stack_of("the sheet", sheet_call, FULL, 2, FLY_SHEET_STACK);
     size_t standing = stack_of("the standing", stands_call, STANDINGS, 5, FLY_STANDS_STACK);
     size_t conversion = stack_of("the conversion", convert_call, CONVERSIONS, 5, FLY_CONVERT_STACK);
-    printf("stack: run %zu bytes, with a short log %zu bytes, sheet %zu bytes, standing %zu bytes, conversion %zu bytes\n", run,
-           short_log, sheet, standing, conversion);
+    size_t join = stack_of("the join", join_call, JOINS, 9, FLY_JOIN_STACK);
+    printf("stack: run %zu bytes, with a short log %zu bytes, sheet %zu bytes, standing %zu bytes, conversion %zu bytes, join %zu bytes\n",
+           run, short_log, sheet, standing, conversion, join);
 }
 #else
 static void stack_use(void) {}
@@ -503,6 +645,7 @@ int main(void) {
     make_bytes();
     make_editions();
     make_log_and_sheet();
+    make_couple();
     runs(&CASE_1, 19, FLY_LOG, FLY_SCRATCH + MORE, ALL_1);
     runs(&CASE_1, 17, 8, FLY_SCRATCH, ALL_1);
     runs(&CASE_1, 16, 8, FLY_SCRATCH, (fly_answer){0, 0, 8, 7, 16});
@@ -530,6 +673,7 @@ int main(void) {
     no_edition(&CIRCLE);
     converts_both_ways(&CASE_1, &TWO, &ORIGINS);
     converts_both_ways(&LIMITS, &LIMITS_TWO, &LIMITS_ORIGINS);
+    couples();
     together();
     stack_use();
     puts("promises kept");

@@ -1,5 +1,5 @@
-//! A slow engine, written from document 01 and from S-1 to S-3 and S-5 of document 02, sentence by sentence. The quoted lines are the
-//! documents' own. What is held is a `Vec<bool>` indexed by the number of a line, and every inference rule is a direct quantification
+//! A slow engine, written from document 01 and from S-1 to S-3 and S-5 to S-7 of document 02, sentence by sentence. The quoted lines are
+//! the documents' own. What is held is a `Vec<bool>` indexed by the number of a line, and every inference rule is a direct quantification
 //! over rules and antecedents.
 
 use std::sync::atomic::{AtomicU32, Ordering::Relaxed};
@@ -33,7 +33,7 @@ pub struct Standing {
     pub standing: u32,
 }
 
-/// What a conversion answers, in the two numbers of flyrules.h. With a refusal the second is 0.
+/// What a conversion or a join answers, in the two numbers of flyrules.h. With a refusal the second is 0.
 #[repr(C)]
 #[derive(Clone, Copy, PartialEq, Eq, Debug)]
 pub struct Written {
@@ -612,17 +612,8 @@ pub fn stands(bytes: &[u8], edition: u32, judged: u32, rule: u32, log: &[u16]) -
     Standing { refused: 0, standing: standing(&antecedents(bytes, edition, rule), &misread(a, log)) }
 }
 
-/// The file of an edition that says what an accepted table says, its rules with origin 0.
-fn file(theory: &Theory, edition: u32) -> Vec<u8> {
-    let (a, rules) = (theory.a, &theory.rules);
-    // "facts: left 0, right a literal. Right rises strictly."
-    let facts: Vec<_> = (0..2 * a).filter(|&q| theory.fact[q]).map(|q| (0, q)).collect();
-    // "rules, numbered from 0: left the kind, right the head"; in edition two kind + 4 × 0, which is the same
-    let heads = rules.iter().map(|r| (r.kind + 4 * mutant(63) as usize, r.head)).collect();
-    // "entries: left a rule, right an antecedent", "pairs: left the stronger rule, right the weaker", both in the table's own order, since
-    // they "rise strictly by left, then right" in no other
-    let entries = (0..rules.len()).flat_map(|r| rules[r].body.iter().map(move |&q| (r, q))).collect();
-    let sections = [facts, heads, entries, theory.pairs.clone()];
+/// The file of an edition with these sections: facts, rules, entries and pairs, as (left, right).
+fn file(a: usize, sections: &[Vec<(usize, usize)>; 4], edition: u32) -> Vec<u8> {
     // "Sizes come first .. Then come two parallel arrays, left and right"
     let (sizes, places) = (sections.iter().map(Vec::len), sections.concat());
     let (left, right) = (places.iter().map(|e| e.0), places.iter().map(|e| e.1));
@@ -630,6 +621,19 @@ fn file(theory: &Theory, edition: u32) -> Vec<u8> {
     // "the first byte of the file is an added 2"
     let first = (edition == TWO).then_some(2);
     first.into_iter().chain(words.flat_map(|w| (w as u16).to_le_bytes())).collect()
+}
+
+/// The file of an edition that says what an accepted table says, its rules with origin 0.
+fn without_origins(theory: &Theory, edition: u32) -> Vec<u8> {
+    let (a, rules) = (theory.a, &theory.rules);
+    // "facts: left 0, right a literal. Right rises strictly."
+    let facts = (0..2 * a).filter(|&q| theory.fact[q]).map(|q| (0, q)).collect();
+    // "rules, numbered from 0: left the kind, right the head"; in edition two kind + 4 × 0, which is the same
+    let heads = rules.iter().map(|r| (r.kind + 4 * mutant(63) as usize, r.head)).collect();
+    // "entries: left a rule, right an antecedent", "pairs: left the stronger rule, right the weaker", both in the table's own order, since
+    // they "rise strictly by left, then right" in no other
+    let entries = (0..rules.len()).flat_map(|r| rules[r].body.iter().map(move |&q| (r, q))).collect();
+    file(a, &[facts, heads, entries, theory.pairs.clone()], edition)
 }
 
 /// Document 02, S-5: "A converter goes from old layout to edition two with origin 0, and back, each way giving the unique file with the
@@ -645,7 +649,7 @@ pub fn convert(bytes: &[u8], edition: u32, out_len: usize) -> (Written, Vec<u8>)
         return refusal(judged);
     }
     let theory = theory(bytes, edition);
-    let file = file(&theory, if edition == OLD { TWO } else { OLD });
+    let file = without_origins(&theory, if edition == OLD { TWO } else { OLD });
     // "A converter's output shorter than the new file is 9, after 1 to 7 and before 10"
     let short = out_len < if mutant(61) { bytes.len() } else { file.len() };
     // "10, a non-zero origin on the way back"
@@ -659,13 +663,139 @@ pub fn convert(bytes: &[u8], edition: u32, out_len: usize) -> (Written, Vec<u8>)
     (Written { refused: 0, bytes: if mutant(65) { bytes.len() } else { file.len() } as u32 }, file)
 }
 
-/// Whether some rule of an accepted table has +∂ of all its antecedents and −∂ of one among these lines.
-pub fn fires_and_is_out(bytes: &[u8], edition: u32, lines: &[u16]) -> bool {
-    let theory = theory(bytes, edition);
-    let mut held = vec![false; 8 * theory.a];
+/// A join, whatever output is lent: what house and tour are refused by, or 0; of two that are not, whether their atom counts differ,
+/// and the joined sizes F, N, B and P with the byte count that they ask for; and the joined file, if only 12 could still refuse it.
+#[derive(Default)]
+pub struct Join {
+    pub house: u32,
+    pub tour: u32,
+    pub apart: bool,
+    pub sizes: [usize; 4],
+    pub len: usize,
+    pub file: Vec<u8>,
+}
+
+impl Join {
+    /// "2 oversize: one of the five sizes above its limit", of the joined ones.
+    pub fn too_large(&self) -> bool {
+        let [f, n, b, p] = self.sizes;
+        let p = if mutant(83) { p % 65_536 } else { p };
+        f > 1_024 || n > 1_024 || b > 4_096 || p > 2_048
+    }
+
+    /// The answer with an output of this length. "Order: 1 to 7 on the house, the same on the tour, 11, 2 on the joined sizes, 12."
+    pub fn answer(&self, out_len: usize) -> Written {
+        let if_so = |number: u32, so: bool| if so { number } else { 0 };
+        // "11, atom counts differ; 12, output shorter than the joined table"
+        let needed = if mutant(92) { self.len + 10 } else { self.len };
+        let (apart, large, short) = (if_so(11, self.apart), if_so(2, self.too_large()), if_so(12, out_len < needed));
+        let mut order = [self.house, self.tour, apart, large, short];
+        match () {
+            _ if mutant(79) => order.swap(3, 4),
+            _ if mutant(80) => order.swap(2, 3),
+            _ if mutant(81) => order.swap(0, 1),
+            _ if mutant(88) => order.sort(),
+            _ => (),
+        }
+        let refused = order.into_iter().find(|&number| number != 0).unwrap_or(0);
+        let bytes = if refused == 0 || mutant(91) && refused == 12 { self.len } else { 0 };
+        Written { refused, bytes: bytes as u32 }
+    }
+}
+
+/// Document 02, S-7: "The result has the union of the facts, the house's rules under their own numbers, the tour's numbered after them,
+/// all entries and pairs of both, and one added pair, house rule over tour rule, for each such two with complementary heads. Kinds and
+/// origins are kept."
+fn joined(house: &Sections, tour: &Sections, edition: u32) -> [Vec<(usize, usize)>; 4] {
+    let (n, m) = (house.rules.len(), tour.rules.len());
+    // each once, since "Right rises strictly"
+    let mut facts = [&house.facts[..], &tour.facts].concat();
+    facts.sort();
+    if !mutant(77) {
+        facts.dedup();
+    }
+    let left = |r: &Rule, whose: usize| r.kind + 4 * if mutant(78) && edition == TWO { whose } else { r.origin };
+    let (own, guests) = (house.rules.iter().map(|r| (left(r, 1), r.head)), tour.rules.iter().map(|r| (left(r, 2), r.head)));
+    // "They rise strictly by left, then right"
+    let by = |k: u32| if mutant(k) { 0 } else { n };
+    let shifted = tour.entries.iter().map(|&(r, q)| (r + by(84), q));
+    let mut entries: Vec<_> = house.entries.iter().copied().chain(shifted).collect();
+    entries.sort();
+    let supports = |r: &Rule| r.kind != 2 || !mutant(82);
+    let complementary = |h: &Rule, t: &Rule| h.head == complement(t.head) || mutant(90) && h.head == t.head;
+    let opposed = |h: &Rule, t: &Rule| complementary(h, t) && supports(h) && supports(t);
+    let both = (0..n).flat_map(|h| (0..m).map(move |t| (h, t)));
+    let added = both.filter(|&(h, t)| opposed(&house.rules[h], &tour.rules[t])).map(|(h, t)| (h, n + t));
+    let added = added.map(|(h, t)| if mutant(76) { (t, h) } else { (h, t) });
+    let shifted = tour.pairs.iter().map(|&(t, s)| (t + by(89), s + by(89)));
+    let mut pairs: Vec<_> = house.pairs.iter().copied().chain(shifted).chain(added).collect();
+    if !mutant(85) {
+        pairs.sort();
+    }
+    [facts, own.chain(guests).collect(), entries, pairs]
+}
+
+/// Document 02, S-7: "On the get-in both tables are joined over the same atoms." "The caller names one edition, and both tables are read
+/// and the result written in it."
+pub fn join(house: &[u8], tour: &[u8], edition: u32) -> Join {
+    let edition = mistaken(edition);
+    let mut join = Join { house: judge(house, edition), tour: judge(tour, edition), ..Join::default() };
+    if join.house != 0 || join.tour != 0 {
+        return join;
+    }
+    let [house, tour] = [house, tour].map(|t| sections(t, edition).ok().unwrap());
+    let joined = joined(&house, &tour, edition);
+    join.apart = house.a != tour.a;
+    join.sizes = joined.each_ref().map(Vec::len);
+    // "3 length: byte count not 10 + 4·T"
+    join.len = 10 + 4 * join.sizes.iter().sum::<usize>() + (edition == TWO) as usize;
+    if !join.apart && !join.too_large() {
+        join.file = file(house.a, &joined, edition);
+    }
+    join
+}
+
+/// What S-7 says of the house's rules: for how many of them, against how many of these a tour's rule fires too, and the first for
+/// which it does not hold.
+#[derive(Default)]
+pub struct Claim {
+    pub claimed: u64,
+    pub contested: u64,
+    pub broken: Option<usize>,
+}
+
+/// "In a finished plain run, a strict or defeasible house rule that fires gives its head +∂ wherever no house rule attacks it and the
+/// head's complement has −Δ." The first n rules of the joined table are the house's; the lines are those of a run to its finish.
+pub fn claim(joined: &[u8], edition: u32, n: usize, lines: &[u16]) -> Claim {
+    let (theory, mut claim) = (theory(joined, edition), Claim::default());
+    let held = held(theory.a, lines);
+    let fires = |r: usize| theory.all(&held, r, PLUS_PARTIAL);
+    for r in 0..n {
+        let head = theory.rules[r].head;
+        let attackers = || theory.rules_for(complement(head));
+        let refuted = held[line(complement(head), MINUS_DELTA)];
+        if theory.rules[r].kind != 2 && fires(r) && refuted && attackers().all(|s| s >= n) {
+            claim.claimed += 1;
+            claim.contested += attackers().any(fires) as u64;
+            claim.broken = claim.broken.or((!held[line(head, PLUS_PARTIAL)]).then_some(r));
+        }
+    }
+    claim
+}
+
+/// These lines as what is held, of a table of `a` atoms.
+fn held(a: usize, lines: &[u16]) -> Vec<bool> {
+    let mut held = vec![false; 8 * a];
     for &l in lines {
         held[l as usize] = true;
     }
+    held
+}
+
+/// Whether some rule of an accepted table has +∂ of all its antecedents and −∂ of one among these lines.
+pub fn fires_and_is_out(bytes: &[u8], edition: u32, lines: &[u16]) -> bool {
+    let theory = theory(bytes, edition);
+    let held = held(theory.a, lines);
     (0..theory.rules.len()).any(|r| theory.all(&held, r, PLUS_PARTIAL) && theory.some(&held, r, MINUS_PARTIAL))
 }
 

@@ -1,5 +1,5 @@
-//! Seeded tables for the comparison, in both editions: legal ones of many shapes, damaged ones, and bytes that were never a table; and
-//! logs to read.
+//! Seeded tables for the comparison, in both editions: legal ones of many shapes, damaged ones, and bytes that were never a table;
+//! couples of a house and a tour; and logs to read.
 
 use crate::slow::{OLD, TWO};
 
@@ -165,6 +165,28 @@ impl Draft {
         self.tidy();
         self.give_origins(r);
         self
+    }
+
+    /// A tour that disputes what this house says: most of its heads turned round, some of its kinds changed, some facts and pairs left.
+    fn disputed(&self, r: &mut Rng) -> Draft {
+        let mut d = self.clone();
+        for rule in &mut d.sections[RULES] {
+            rule.1 ^= r.chance(2, 3) as u16;
+            if r.chance(1, 4) {
+                rule.0 = r.below(3) as u16;
+            }
+        }
+        for s in [FACTS, PAIRS] {
+            d.sections[s].retain(|_| r.chance(2, 3));
+        }
+        d.done(r)
+    }
+
+    /// The first `count` of the pairs that go from a rule to a later one, or all of them.
+    fn first_pairs(&mut self, count: usize) {
+        let n = self.n();
+        let falling = (0..n).flat_map(|t| (t + 1..n).map(move |s| (t, s)));
+        falling.take(count).for_each(|(t, s)| self.pair(t, s));
     }
 
     /// Pairs without a circle: each goes down a random order of the rules. Opposed heads with chance `opposed` of 12, others with
@@ -576,6 +598,139 @@ pub fn large(r: &mut Rng) -> Draft {
     let count = r.below(LIMITS[4]);
     d.some_pairs(r, count, 1);
     d.done(r)
+}
+
+/// A house and a tour over the same atoms; at times one of them has more.
+fn over_same_atoms(r: &mut Rng, [mut house, mut tour]: [Draft; 2]) -> [Draft; 2] {
+    let a = house.a.max(tour.a);
+    let more = r.below((LIMITS[0] - a).min(4) + 1);
+    let (with_more, apart) = (r.chance(1, 2), r.chance(1, 8));
+    (house.a, tour.a) = (a, a);
+    if apart {
+        *(if with_more { &mut house.a } else { &mut tour.a }) += more;
+    }
+    [house, tour]
+}
+
+/// A small house and a small tour.
+pub fn couple(r: &mut Rng) -> [Draft; 2] {
+    let house = small(r);
+    let tour = if r.chance(1, 2) { house.disputed(r) } else { small(r) };
+    over_same_atoms(r, [house, tour])
+}
+
+/// A house and a tour of some dozens of atoms and rules.
+pub fn medium_couple(r: &mut Rng) -> [Draft; 2] {
+    let house = medium(r);
+    let tour = if r.chance(1, 2) { house.disputed(r) } else { medium(r) };
+    over_same_atoms(r, [house, tour])
+}
+
+/// A number around a limit.
+fn around(r: &mut Rng, limit: usize) -> usize {
+    let more = r.within(limit + 1, 2 * limit);
+    r.pick(&[limit - 1, limit, limit, limit + 1, limit + 1, limit + 2, more])
+}
+
+/// A number in two parts, each within the limit.
+fn parted(r: &mut Rng, number: usize, limit: usize) -> [usize; 2] {
+    let first = r.within(number.saturating_sub(limit), number.min(limit));
+    [first, number - first]
+}
+
+/// Rules without antecedents, about as many as there may be in both tables; few of the tour's have a head that one of the house's is against.
+fn many_rules(r: &mut Rng) -> [Draft; 2] {
+    let (a, weights, number) = (r.within(256, 512), kinds(r), around(r, LIMITS[2]));
+    let (parts, mut guests) = (parted(r, number, LIMITS[2]), false);
+    parts.map(|n| {
+        let mut d = Draft::atoms(a);
+        for _ in 0..n {
+            let (k, opposed) = (kind(r, weights), guests && r.chance(1, 64));
+            d.rule(k, 2 * r.below(a) + opposed as usize, &[]);
+        }
+        guests = true;
+        d
+    })
+}
+
+/// Rules of many antecedents, of which both tables have about as many as there may be.
+fn many_entries(r: &mut Rng) -> [Draft; 2] {
+    let (a, weights, number) = (r.within(300, 512), kinds(r), around(r, LIMITS[3]));
+    parted(r, number, LIMITS[3]).map(|entries| {
+        let (mut d, mut left, longest) = (Draft::atoms(a), entries, r.within(16, 200));
+        while left > 0 {
+            let (k, head, from, length) = (kind(r, weights), r.below(2 * a), r.below(2 * a), longest.min(left));
+            let body: Vec<usize> = (from..from + length).map(|q| q % (2 * a)).collect();
+            d.rule(k, head, &body);
+            left -= length;
+        }
+        d
+    })
+}
+
+/// Rules for a literal in the house, rules against it in the tour. The house has pairs of its own.
+fn against(r: &mut Rng, [n, m]: [usize; 2], own: usize) -> [Draft; 2] {
+    let (a, weights) = (r.within(1, 4), kinds(r));
+    let mut tables = [(n, 0), (m, 1)].map(|(rules, head)| {
+        let mut d = Draft::atoms(a);
+        for _ in 0..rules {
+            let k = kind(r, weights);
+            d.rule(k, head, &[]);
+        }
+        d
+    });
+    let most = n * n.saturating_sub(1) / 2;
+    tables[0].first_pairs(own);
+    tables[1].first_pairs(own.saturating_sub(most));
+    tables
+}
+
+/// As many added pairs as fit, or nearly, and about as many pairs in all as there may be.
+fn many_pairs(r: &mut Rng) -> [Draft; 2] {
+    let (n, number) = (r.within(2, 100), r.pick(&[2_047, 2_048, 2_048, 2_049, 2_049, 2_050]));
+    let m = number / n - r.below(number / n).min(3);
+    let exact = r.pick(&[[32, 64], [64, 32], [16, 128], [33, 63], [63, 33], [2, 1_022]]);
+    if r.chance(1, 4) {
+        return against(r, exact, 0);
+    }
+    against(r, [n, m], number - n * m)
+}
+
+/// More added pairs than 16 bits count, by what is left of them none or few.
+fn wrapping_pairs(r: &mut Rng) -> [Draft; 2] {
+    let rules = r.pick(&[[128, 512], [256, 256], [512, 128], [256, 512], [512, 256], [512, 512], [164, 400], [257, 256]]);
+    let own = r.pick(&[0, 0, 1, 60]);
+    against(r, rules, own)
+}
+
+/// Half of a table with every size at its limit, each: half of the facts are of both, and half of the joined pairs are added.
+fn halves(r: &mut Rng) -> [Draft; 2] {
+    let ([a, f, n, _, _], weights) = (LIMITS, kinds(r));
+    [(0..3 * f / 4, 0), (f / 4..f, 1)].map(|(facts, side)| {
+        let mut d = Draft::atoms(a);
+        facts.for_each(|q| d.fact(q));
+        for i in 0..n / 2 {
+            let (k, from) = (kind(r, weights), r.below(2 * a - 3));
+            d.rule(k, 2 * (i % (n / 4)) + side, &[from, from + 1, from + 2, from + 3]);
+        }
+        d.first_pairs(n / 2);
+        d
+    })
+}
+
+pub const COUPLE_SHAPES: usize = 5;
+
+/// A house and a tour whose joined sizes are around a limit, by rules, by entries or by pairs, far above it by added pairs, or all at it.
+pub fn great_couple(r: &mut Rng, shape: usize) -> [Draft; 2] {
+    let tables = match shape {
+        0 => many_rules(r),
+        1 => many_entries(r),
+        2 => many_pairs(r),
+        3 => wrapping_pairs(r),
+        _ => halves(r),
+    };
+    let tables = tables.map(|d| d.done(r));
+    over_same_atoms(r, tables)
 }
 
 pub const FAULTS: usize = 14;

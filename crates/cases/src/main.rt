@@ -2,6 +2,7 @@
 // those that gave what they must. Before it, each other record has a line: the file, the record's number, what differs first and
 // its place, what came and what was wanted.
 mod difference;
+mod joins;
 mod noise;
 mod readers;
 mod records;
@@ -24,9 +25,10 @@ pub enum Layout {
     Readers,
     Sheets,
     Conversions,
+    Joins,
 }
 
-// Whether a record, whose table has n bytes, gives what it must.
+// Whether a record, whose table, or house, has n bytes, gives what it must.
 fn is_same(file: &[u8], layout: Layout, fd: i32, record: u32, n: u32) -> bool {
     let buffer = stream::bytes(fd, n);
     let table = stream::front(&buffer, n);
@@ -38,6 +40,7 @@ fn is_same(file: &[u8], layout: Layout, fd: i32, record: u32, n: u32) -> bool {
         Layout::Readers => readers::readers_differ(fd, table),
         Layout::Sheets => records::sheet_differs(fd, table),
         Layout::Conversions => records::conversion_differs(fd, record, table),
+        Layout::Joins => joins::join_differs(fd, record, table),
     };
     d.is_none(file, record)
 }
@@ -81,4 +84,5 @@ fn main() {
     try_file(b"longest.bin", Layout::Sheets, true);
     try_file(b"editions.bin", Layout::Conversions, true);
     try_file(b"conversions.bin", Layout::Conversions, true);
+    try_file(b"joins.bin", Layout::Joins, true);
 }

@@ -75,7 +75,7 @@ fn byte_of(bytes: &[u8], i: usize) -> u8 {
 }
 
 // Each byte, 0 past the end.
-fn compare_bytes(d: Difference, came: &[u8], wanted: &[u8; 65536]) -> Difference {
+pub fn compare_bytes(d: Difference, came: &[u8], wanted: &[u8; 65536]) -> Difference {
     let mut d = d;
     let mut i: usize = 0;
     while i < 65536 {

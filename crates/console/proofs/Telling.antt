@@ -18,13 +18,14 @@ use Rattle.standing.specs.declared.answer.StandingNumbers.{StandingNumbers}
 use Rattle.standing.specs.declared.answer.StandingAnswer.the-variants as standing
 use Rattle.standing.specs.Answers as standing-answers
 use Rattle.standing.specs.Answers.{standingOf}
-use Rattle.convert.specs.declared.answer.WrittenNumbers.{WrittenNumbers}
-use Rattle.convert.specs.declared.answer.Written.the-variants as written
-use Rattle.convert.specs.Answers as written-answers
+use Rattle.writing.specs.declared.answer.WrittenNumbers.{WrittenNumbers}
+use Rattle.writing.specs.declared.answer.Written.the-variants as written
+use Rattle.writing.specs.Answers as written-answers
 use Rattle.convert.specs.Conversion.{Converted}
+use Rattle.join.specs.Calls.{Joined}
 use Rattle.console.specs.declared.told.Told.{Told}
 use Rattle.console.specs.declared.told.Told.the-variants.{Known, Unknown}
-use Rattle.console.specs.Told.{toldBy, RanTold, standingTold, ConvertedTold}
+use Rattle.console.specs.Told.{toldBy, RanTold, standingTold, ConvertedTold, JoinedTold}
 use Rattle.console.proofs.told.Told.{the-type}
 
 -- the number of an edition tells it, and every other number none
@@ -63,6 +64,11 @@ module _ (t : Told) (n : ℕ) (told : t ≡ toldBy n) (b : List ℕ) where
     converted-known out out′ m k f w =
         subst (λ z. ConvertedTold z b out out′ k) (sym known ∙ told) (subst (Converted e b out out′) (sym f) w)
 
+    pub joined-known : (tour out out′ : List ℕ) (m k : WrittenNumbers) → k ≡ m → Joined e b tour out out′ m → JoinedTold (toldBy n) b tour out out′ k
+    unfolding JoinedTold
+    joined-known tour out out′ m k f w =
+        subst (λ z. JoinedTold z b tour out out′ k) (sym known ∙ told) (subst (Joined e b tour out out′) (sym f) w)
+
   module _ (tag : Declared.tagOf the-type t ≡ 1) where
     none : Unknown ≡ toldBy n
     none = sym (found-unknown t tag) ∙ told
@@ -78,3 +84,7 @@ module _ (t : Told) (n : ℕ) (told : t ≡ toldBy n) (b : List ℕ) where
     pub converted-unknown : (out : List ℕ) (k : WrittenNumbers) → k ≡ written-answers.numbersOf (written.Refused Truncated) → ConvertedTold (toldBy n) b out out k
     unfolding ConvertedTold written-answers.numbersOf
     converted-unknown out k f = subst (λ z. ConvertedTold z b out out k) none (f, refl)
+
+    pub joined-unknown : (tour out : List ℕ) (k : WrittenNumbers) → k ≡ written-answers.numbersOf (written.Refused Truncated) → JoinedTold (toldBy n) b tour out out k
+    unfolding JoinedTold written-answers.numbersOf
+    joined-unknown tour out k f = subst (λ z. JoinedTold z b tour out out k) none (f, refl)

@@ -13,9 +13,10 @@ use Rattle.engine.specs.Answers.{Ran}
 use Rattle.standing.specs.declared.answer.StandingNumbers.{StandingNumbers}
 use Rattle.standing.specs.Answers as standing
 use Rattle.standing.specs.Answers.{standingOf}
-use Rattle.convert.specs.declared.answer.WrittenNumbers.{WrittenNumbers}
-use Rattle.convert.specs.Answers as written
+use Rattle.writing.specs.declared.answer.WrittenNumbers.{WrittenNumbers}
+use Rattle.writing.specs.Answers as written
 use Rattle.convert.specs.Conversion.{Converted}
+use Rattle.join.specs.Calls.{Joined}
 use Rattle.console.specs.declared.told.Told.{Told}
 use Rattle.console.specs.declared.told.Told.the-variants.{Known, Unknown}
 
@@ -40,3 +41,8 @@ standingTold Unknown b r log = standing.refusalNumbers (numberOf Truncated)
 unfoldable pub ConvertedTold : Told → List ℕ → List ℕ → List ℕ → WrittenNumbers → Type 0
 ConvertedTold (Known e) b out out′ n = Converted e b out out′ n
 ConvertedTold Unknown b out out′ n = (n ≡ written.refusalNumbers (numberOf Truncated)) × (out′ ≡ out)
+
+-- a join
+unfoldable pub JoinedTold : Told → List ℕ → List ℕ → List ℕ → List ℕ → WrittenNumbers → Type 0
+JoinedTold (Known e) house tour out out′ n = Joined e house tour out out′ n
+JoinedTold Unknown house tour out out′ n = (n ≡ written.refusalNumbers (numberOf Truncated)) × (out′ ≡ out)

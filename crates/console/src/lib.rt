@@ -3,14 +3,16 @@
 mod told;
 
 ghost use mathlib.Core.Path.{_≡_};
+ghost use Rattle.table.specs.declared.judge.Refusal.the-variants.{Truncated};
+ghost use Rattle.writing.specs.declared.answer.Written.the-variants.{Refused};
+ghost use Rattle.writing.specs.Answers.{numbersOf};
 ghost use Rattle.report.specs.Sheet.{Printed};
-ghost use Rattle.console.specs.Told.{toldBy, RanTold, standingTold, ConvertedTold};
-use convert::answer::Written;
-use convert::answer::WrittenNumbers;
+ghost use Rattle.console.specs.Told.{toldBy, RanTold, standingTold, ConvertedTold, JoinedTold};
 use convert::convert::convert;
 use engine::answer::Answer;
 use engine::answer::Numbers;
 use engine::run::run;
+use join::join::join;
 use report::sheet::sheet_of;
 use standing::answer::StandingAnswer;
 use standing::answer::StandingNumbers;
@@ -18,6 +20,8 @@ use standing::stands::stands;
 use table::judge::Refusal;
 use told::Told;
 use told::told_by;
+use writing::answer::Written;
+use writing::answer::WrittenNumbers;
 
 #[no_mangle]
 pub extern "C" fn fly_run(
@@ -55,12 +59,34 @@ pub extern "C" fn fly_stands(table: &[u8], edition: u32, rule: u32, log: &[u16])
     }
 }
 
+// What a call that writes a table answers to a number of no edition.
+fn not_written() -> WrittenNumbers
+    ensures { λ r. ⌜ r ≡ numbersOf (Refused Truncated) ⌝ }
+{
+    Written::Refused(Refusal::Truncated).numbers()
+}
+
 #[no_mangle]
 pub extern "C" fn fly_convert(table: &[u8], edition: u32, out: &mut [u8]) -> WrittenNumbers
     ensures { λ r. ⌜ ConvertedTold (toldBy edition) (now (table .entry)) (now (out .entry)) (now (out .exit)) r ⌝ }
 {
     match told_by(edition) {
         Told::Known(e) => convert(table, e, out).numbers(),
-        Told::Unknown => Written::Refused(Refusal::Truncated).numbers(),
+        Told::Unknown => not_written(),
+    }
+}
+
+#[no_mangle]
+pub extern "C" fn fly_join(
+    house: &[u8],
+    tour: &[u8],
+    edition: u32,
+    out: &mut [u8],
+) -> WrittenNumbers
+    ensures { λ r. ⌜ JoinedTold (toldBy edition) (now (house .entry)) (now (tour .entry)) (now (out .entry)) (now (out .exit)) r ⌝ }
+{
+    match told_by(edition) {
+        Told::Known(e) => join(house, tour, e, out).numbers(),
+        Told::Unknown => not_written(),
     }
 }

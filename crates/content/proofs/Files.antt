@@ -50,7 +50,7 @@ kind-back (suc zero) h = refl
 kind-back (suc (suc zero)) h = refl
 kind-back (suc (suc (suc n))) h = absurd (omega arith)
 
-origin-back : (n : ℕ) → n ≤ 3 → originNumber (originOf n) ≡ n
+pub origin-back : (n : ℕ) → n ≤ 3 → originNumber (originOf n) ≡ n
 unfolding originOf
 origin-back zero h = refl
 origin-back (suc zero) h = refl

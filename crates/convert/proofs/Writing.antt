@@ -1,22 +1,21 @@
 -- What is answered and written, by the output that is lent. Assumes nothing.
 use Prim.Native.Nat.{ℕ, suc, _+_, _≤_, _<_}
 use native.Mathlib.Omega.{arith}
-use mathlib.Core.Path.{_≡_, sym, _∙_, ap}
+use mathlib.Core.Path.{_≡_, _∙_, ap}
 use mathlib.Core.Bool.{Bool, true, false}
 use mathlib.Core.List.{List, [], _∷_, _++_}
 use borrow.Author.Tests.{lt-ltb, le-ltb}
 use lib.ListN.{length, drop, set}
 use lib.Seq.{paste, take-length}
 use Rattle.table.specs.declared.format.Sizes.{Sizes}
-use Rattle.table.specs.declared.judge.Refusal.{Refusal}
 use Rattle.table.specs.declared.judge.Refusal.the-variants.{ShortLog, HasOrigin}
-use Rattle.table.specs.declared.judge.Judgement.{Judgement}
-use Rattle.table.specs.declared.judge.Judgement.the-variants as judgement
 use Rattle.table.specs.Refusals.{Legal}
 use Rattle.table.proofs.Legal.{whole-length, limited}
-use Rattle.convert.specs.declared.answer.Written.{Written}
-use Rattle.convert.specs.declared.answer.Written.the-variants.{Refused, Bytes}
-use Rattle.convert.specs.Conversion.{withOutput, answerTo, outputAfter, Wrote}
+use Rattle.writing.specs.declared.answer.Written.{Written}
+use Rattle.writing.specs.declared.answer.Written.the-variants.{Refused, Bytes}
+use Rattle.writing.specs.Output.{Wrote}
+use Rattle.writing.proofs.Answering.{wrote-not, wrote-new}
+use Rattle.convert.specs.Conversion.{withOutput}
 
 -- the longest table
 pub file-length : (b : List ℕ) (s : Sizes) → Legal b s → length b ≤ 32778
@@ -33,11 +32,7 @@ pasted-marked (x ∷ out) file h =
     ap (λ (z : List ℕ). 2 ∷ (z ++ drop (1 + length file) (x ∷ out))) (take-length file)
     ∙ ap (λ k. 2 ∷ (file ++ drop k (x ∷ out))) (let e : 1 + length file ≡ suc (length file) = omega arith in e)
 
--- by a judgement that refuses, and by one that accepts
-pub wrote-not : (n : Refusal) (j : Judgement) (new : List ℕ) {out out′ : List ℕ} {a : Written} → j ≡ judgement.Refused n → (a ≡ Refused n) × (out′ ≡ out) → Wrote j new out out′ a
-unfolding answerTo outputAfter
-wrote-not n j new {out} e (f, g) = record { answer = f ∙ ap (λ i. answerTo i new) (sym e); output = g ∙ ap (λ i. outputAfter i new out) (sym e) }
-
+-- by the output and by what would be lost
 module _ (s : Sizes) (lost : Bool) (new : List ℕ) {out out′ : List ℕ} {a : Written} where
   pub wrote-short : length out < length new → (a ≡ Refused ShortLog) × (out′ ≡ out) → Wrote (withOutput s lost new (length out)) new out out′ a
   unfolding withOutput
@@ -49,7 +44,5 @@ module _ (s : Sizes) (lost : Bool) (new : List ℕ) {out out′ : List ℕ} {a :
 
   pub wrote-file : length new ≤ length out → lost ≡ false → a ≡ Bytes (length new) → out′ ≡ new ++ drop (length new) out
       → Wrote (withOutput s lost new (length out)) new out out′ a
-  unfolding withOutput answerTo outputAfter
-  wrote-file h e f g =
-      let j : withOutput s lost new (length out) ≡ judgement.Accepted s = simp (le-ltb (length out) (length new) h, e) in
-      record { answer = f ∙ ap (λ i. answerTo i new) (sym j); output = g ∙ ap (λ i. outputAfter i new out) (sym j) }
+  unfolding withOutput
+  wrote-file h e f g = wrote-new s _ new (simp (le-ltb (length out) (length new) h, e)) f g

@@ -3,9 +3,9 @@
 use Prim.Native.Nat.{ℕ, _<_}
 use mathlib.Core.Path.{_≡_}
 use mathlib.Core.Bool.{Bool, false, cond}
-use mathlib.Core.List.{List, _∷_, _++_}
+use mathlib.Core.List.{List}
 use lib.Dec.{ltb}
-use lib.ListN.{length, drop}
+use lib.ListN.{length}
 use Rattle.logic.specs.Tests.{some}
 use Rattle.logic.specs.Content.{SameContent}
 use Rattle.table.specs.declared.format.Sizes.{Sizes}
@@ -18,20 +18,19 @@ use Rattle.table.specs.declared.edition.Edition.the-variants.{Old, Two}
 use Rattle.table.specs.Editions.{Bytes, layoutOf}
 use Rattle.table.specs.Format.{originNumber, ruleAt, originAt, theoryOf}
 use Rattle.table.specs.Refusals.{judgementOf}
-use Rattle.convert.specs.declared.answer.WrittenNumbers.{WrittenNumbers}
-use Rattle.convert.specs.declared.answer.Written.{Written}
-use Rattle.convert.specs.declared.answer.Written.the-variants as written
-use Rattle.convert.specs.Answers.{numbersOf}
+use Rattle.files.specs.Contents.{contentOf, fileOf}
+use Rattle.writing.specs.declared.answer.WrittenNumbers.{WrittenNumbers}
+use Rattle.writing.specs.Answers.{numbersOf}
+use Rattle.writing.specs.Output.{answerTo, outputAfter}
 
 -- the edition that a table is written in
 unfoldable pub other : Edition → Edition
 other Old = Two
 other Two = Old
 
--- The new file. "the first byte of the file is an added 2, followed by the old layout", in which kind + 4 × 0 is the kind.
-unfoldable pub converted : Edition → List ℕ → List ℕ
-converted Old b = 2 ∷ b
-converted Two b = layoutOf Two b
+-- The new file: what the table says, in the other edition. Edition two says every origin, and the old layout only 0.
+abbrev pub converted : Edition → List ℕ → List ℕ
+converted e b = fileOf (other e) (contentOf e b)
 
 -- 10: "a non-zero origin on the way back"
 unfoldable pub hasOrigin : List ℕ → Sizes → Bool
@@ -50,21 +49,6 @@ withOutput s lost new out = cond (ltb out (length new)) (judgement.Refused Short
 unfoldable pub callJudgement : Judgement → Edition → List ℕ → ℕ → Judgement
 callJudgement (judgement.Accepted s) e b out = withOutput s (lost e b s) (converted e b) out
 callJudgement (judgement.Refused n) e b out = judgement.Refused n
-
--- "answers with its byte count"
-unfoldable pub answerTo : Judgement → List ℕ → Written
-answerTo (judgement.Accepted s) new = written.Bytes (length new)
-answerTo (judgement.Refused n) new = written.Refused n
-
--- "a refusal leaves the output untouched, and bytes past the new file always are"
-unfoldable pub outputAfter : Judgement → List ℕ → List ℕ → List ℕ
-outputAfter (judgement.Accepted s) new out = new ++ drop (length new) out
-outputAfter (judgement.Refused n) new out = out
-
--- What is answered and written by a judgement.
-pub record Wrote (j : Judgement) (new out out′ : List ℕ) (a : Written) : Type 0 where
-  pub answer : a ≡ answerTo j new
-  pub output : out′ ≡ outputAfter j new out
 
 -- A file that says what a table says, in the other edition and with origin 0: it is accepted with the same sizes, it is the only one, and
 -- converted back it is the table. (In the old layout every accepted file says origin 0: `old-origins` in content's proofs/Origins.antt.)

@@ -7,10 +7,10 @@ ghost use lib.ListN.{length};
 ghost use lib.Seq.{paste};
 ghost use Rattle.table.specs.declared.judge.Judgement.the-variants.{Accepted};
 ghost use Rattle.table.specs.Refusals.{judgementOf, Legal};
-ghost use Rattle.convert.specs.declared.answer.Written.the-variants.{Refused};
-ghost use Rattle.convert.specs.Answers.{numbersOf};
-ghost use Rattle.convert.specs.Conversion.{hasOrigin, withOutput, callJudgement, converted, Wrote, Converted};
-use crate::answer::Written;
+ghost use Rattle.writing.specs.declared.answer.Written.the-variants.{Refused};
+ghost use Rattle.writing.specs.Answers.{numbersOf};
+ghost use Rattle.writing.specs.Output.{Wrote};
+ghost use Rattle.convert.specs.Conversion.{hasOrigin, withOutput, callJudgement, converted, Converted};
 use table::edition::Edition;
 use table::edition::layout;
 use table::format::Sizes;
@@ -19,13 +19,8 @@ use table::judge::Judgement;
 use table::judge::Refusal;
 use table::judge::judge;
 use values::either;
-
-// "a refusal leaves the output untouched"
-fn refuse(why: Refusal, out: &mut [u8]) -> Written
-    ensures { λ r. ⌜ (r ≡ Refused why) × (now (out .exit) ≡ now (out .entry)) ⌝ }
-{
-    Written::Refused(why)
-}
+use writing::answer::Written;
+use writing::answer::refuse;
 
 // Whether a rule has an origin. All rules are looked at.
 fn has_origin(layout: &[u8], s: Sizes) -> bool

@@ -18,7 +18,7 @@ use Rattle.table.specs.Refusals.{sectionFrom, sectionSize, leftFrom, sec
 use Rattle.table.proofs.Legal.{left-in, right-in}
 
 -- in the order by left, then right
-pub Before : ℕ → ℕ → ℕ → ℕ → Type 0
+unfoldable pub Before : ℕ → ℕ → ℕ → ℕ → Type 0
 Before l r m q = (l < m) ⊎ ((l ≡ m) × (r < q))
 
 before-trans : (l r m q n t : ℕ) → Before l r m q → Before m q n t → Before l r n t

@@ -10,7 +10,7 @@ use Rattle.logic.specs.Theory.{superior}
 use Rattle.logic.specs.Cycle.{cyclic}
 use Rattle.table.specs.declared.format.Sizes.{Sizes}
 use Rattle.table.specs.declared.judge.Refusal.{Refusal}
-use Rattle.table.specs.declared.judge.Refusal.the-variants.{Truncated, TooLarge, WrongLength, BadKind, OutOfRange, Unsorted, Cyclic, ShortScratch, ShortLog, HasOrigin}
+use Rattle.table.specs.declared.judge.Refusal.the-variants.{Truncated, TooLarge, WrongLength, BadKind, OutOfRange, Unsorted, Cyclic, ShortScratch, ShortLog, HasOrigin, AtomsDiffer, ShortOutput}
 use Rattle.table.specs.declared.judge.Judgement.{Judgement}
 use Rattle.table.specs.declared.judge.Judgement.the-variants.{Accepted, Refused}
 use Rattle.table.specs.declared.edition.Edition.{Edition}
@@ -30,6 +30,8 @@ numberOf Cyclic = 7
 numberOf ShortScratch = 8
 numberOf ShortLog = 9
 numberOf HasOrigin = 10
+numberOf AtomsDiffer = 11
+numberOf ShortOutput = 12
 
 -- 1: "fewer than 10 bytes"; for edition two "judged on the bytes after the first", and "A first byte other than 2, or no byte, is 1."
 unfoldable pub truncated : Edition → List ℕ → Bool

@@ -1,8 +1,7 @@
 // Document 01, The table: "The antecedents of one rule are handed back as the part of the table's own right array".
-ghost use Prim.Native.Nat.{_+_, _*_, _<_};
+ghost use Prim.Native.Nat.{_+_, _*_};
 ghost use mathlib.Core.Path.{_≡_};
 ghost use lib.ListN.{length};
-ghost use Rattle.logic.specs.Tests.{weigh};
 ghost use Rattle.table.specs.Format.{spanOf};
 ghost use Rattle.table.specs.Bodies.{entriesBelow, bodyPart, Body};
 use crate::edition::Edition;
@@ -11,13 +10,7 @@ use crate::format::Sizes;
 use crate::format::read_entry;
 use crate::judge::Judgement;
 use crate::judge::judge;
-
-fn add_if(n: usize, test: bool) -> usize
-    requires { ⌜ n < 65535 ⌝ }
-    ensures { λ r. ⌜ r ≡ n + weigh test 1 ⌝ }
-{
-    if test { n + 1 } else { n }
-}
+use values::add_if;
 
 // How many entries are of rules below r.
 fn entries_below(layout: &[u8], s: Sizes, r: usize) -> usize

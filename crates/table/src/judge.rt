@@ -35,6 +35,10 @@ pub enum Refusal {
     ShortLog,
     // 10, an origin that the old layout has no place for
     HasOrigin,
+    // 11, two tables with different atom counts
+    AtomsDiffer,
+    // 12, an output shorter than the table that is to be written
+    ShortOutput,
 }
 
 impl Refusal {
@@ -53,6 +57,8 @@ impl Refusal {
             Refusal::ShortScratch => 8,
             Refusal::ShortLog => 9,
             Refusal::HasOrigin => 10,
+            Refusal::AtomsDiffer => 11,
+            Refusal::ShortOutput => 12,
         }
     }
 }

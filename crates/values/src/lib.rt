@@ -1,6 +1,7 @@
 // Small functions by value. A test or a cast that goes through one leaves one fact to its caller, and no branch.
+ghost use Prim.Native.Nat.{_+_, _<_};
 ghost use mathlib.Core.Path.{_≡_};
-ghost use Rattle.logic.specs.Tests.{_and_, _or_};
+ghost use Rattle.logic.specs.Tests.{_and_, _or_, weigh};
 
 pub fn both(a: bool, b: bool) -> bool
     ensures { λ r. ⌜ r ≡ (a and b) ⌝ }
@@ -12,6 +13,14 @@ pub fn either(a: bool, b: bool) -> bool
     ensures { λ r. ⌜ r ≡ (a or b) ⌝ }
 {
     if a { true } else { b }
+}
+
+// A count, with one more if the test says so.
+pub fn add_if(n: usize, test: bool) -> usize
+    requires { ⌜ n < 65535 ⌝ }
+    ensures { λ r. ⌜ r ≡ n + weigh test 1 ⌝ }
+{
+    if test { n + 1 } else { n }
 }
 
 // A word as an index.

@@ -15,7 +15,7 @@ returns-2 : tie.Need-returns-2
 returns-2 c =
     let at-match = c .before .before in let at-told = at-match .before in let args = at-told .before .before .before .args in
     converted-unknown (at-told .told-by .result) (args .edition) (at-told .told-by .ensures) (args .table .now) (at-match .match .keys2) (args .out .now) _
-    (c .numbers2 .ensures)
+    (c .not-written .ensures)
 
 pub fly-convert-spec : {M : Type 1} → statement M
 fly-convert-spec =

@@ -3,7 +3,7 @@ use native.Mathlib.Omega.{arith}
 use native.Mathlib.Numerals.{add-one}
 use mathlib.Core.Path.{refl, _∙_, ap}
 use lib.ListN.{set, length}
-use Rattle.convert.specs.declared.answer.Written.the-variants.{Bytes}
+use Rattle.writing.specs.declared.answer.Written.the-variants.{Bytes}
 use Rattle.convert.proofs.Writing.{file-length, pasted-marked, wrote-short, wrote-file}
 use borrow.Author.Needs.{needs}
 use Rattle.convert.proofs.convert.to_two.Statement.{statement}

@@ -19,14 +19,17 @@ to-old-requires c κs =
 
 returns : tie.Need-returns
 returns c =
-    let at-two = c .before .before in let at-match = at-two .before .before .before in let args = at-match .before .before .before .args in
-    wrote-two (args .edition) (args .table .now) (args .s) (args .out .now) _ _ (found-old (args .edition) (at-match .match .keys1)) (at-two .to-two .ensures)
+    let at-two = c .before .before in let at-match = at-two .before .before .before in let at-known = at-match .before .before in
+    let start = at-known .before in let args = start .args in
+    wrote-two (args .edition) (args .table .now) (args .s) (args .out .now) _ _ (λ i. at-known .shared-slice-known .given i .fits) (start .pre)
+    (found-old (args .edition) (at-match .match .keys1)) (at-two .to-two .ensures)
 
 returns-2 : tie.Need-returns-2
 returns-2 c =
-    let at-old = c .before .before in let at-layout = at-old .before .before in let at-match = at-layout .before .before in let args = at-match .before .before .before .args in
-    wrote-old (args .edition) (args .table .now) (args .s) (args .out .now) _ _ (found-two (args .edition) (at-match .match .keys2)) (at-layout .layout .ensures)
-    (at-old .to-old .ensures)
+    let at-old = c .before .before in let at-layout = at-old .before .before in let at-match = at-layout .before .before in
+    let at-known = at-match .before .before in let start = at-known .before in let args = start .args in
+    wrote-old (args .edition) (args .table .now) (args .s) (args .out .now) _ _ (λ i. at-known .shared-slice-known .given i .fits) (start .pre)
+    (found-two (args .edition) (at-match .match .keys2)) (at-layout .layout .ensures) (at-old .to-old .ensures)
 
 pub write-other-spec : {M : Type 1} → statement M
 write-other-spec =

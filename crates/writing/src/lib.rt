@@ -1,0 +1,3 @@
+// What the calls share that write a table (convert, join): their answer, and functions that write a section.
+pub mod answer;
+pub mod columns;
