@@ -125,7 +125,7 @@ enum fly_refusal {
     FLY_SHORT_SCRATCH = 8, /* the scratch has fewer than FLY_SCRATCH words */
     FLY_SHORT_LOG = 9,     /* the run writes more lines than the log has words; fly_convert: the new file has more bytes than the output */
     FLY_HAS_ORIGIN = 10,   /* fly_convert: a rule has an origin, for which the old layout has no place */
-    FLY_ATOMS_DIFFER = 11,  /* fly_join: house and tour do not have the same number of atoms */
+    FLY_ATOMS_DIFFER = 11, /* fly_join: house and tour do not have the same number of atoms */
     FLY_SHORT_OUTPUT = 12  /* fly_join: the joined table has more bytes than the output */
 };
 

@@ -1,5 +1,5 @@
 // The words of a table into an output: first all of the left array, then all of the right one, section after section. What does not fit
-// into the output is not written.
+// into the output is not written, so no function asks for room; that a place is below some millions keeps each sum from wrapping.
 ghost use Prim.Native.Nat.{_+_, _-_, _≤_};
 ghost use mathlib.Core.Path.{_≡_};
 ghost use mathlib.Core.List.{[], _∷_};

@@ -23,7 +23,7 @@ write-pairs-requires : tie.Need-write-pairs-requires
 write-pairs-requires c κs =
     let start = c .before .before .before .before .before .before .before .before .before .before .before .before .before .before .before .before .before .before .before .before .before .before in let ((a, h, k, e), _) = start .pre in (
       omega (arith, a, facts-few _ _ _ _ h e, rules-room _ _ _ _ (start .args .side) h k _ _ (c .before .before .before .before .before .before .before .before .write-rules-of-both .ensures), c .before .before .before .before .write-house-pairs .ensures .0),
-      limited _ (h .limits) .rules,
+      omega (arith, limited _ (h .limits) .rules),
       omega arith,
       omega arith,
       k,
