@@ -76,7 +76,7 @@ extern "C" {
 #define FLY_SHEET_STACK 98304
 #define FLY_STANDS_STACK 12288
 #define FLY_CONVERT_STACK 8192
-#define FLY_JOIN_STACK 20480
+#define FLY_JOIN_STACK 24576
 
 /* a line, taken apart */
 #define FLY_LITERAL(line) ((line) / 4u)

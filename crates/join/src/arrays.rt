@@ -10,9 +10,9 @@ ghost use Rattle.standing.specs.Marks.{MarkedBy};
 ghost use Rattle.files.specs.Contents.{contentIn, rowsOf};
 ghost use Rattle.writing.specs.Columns.{wordIn, withWords};
 ghost use Rattle.joining.specs.Joining.{joined};
-ghost use Rattle.join.specs.Heads.{ByHeads};
 ghost use Rattle.join.specs.Written.{RulesOfBoth};
 use crate::facts::write_facts;
+use crate::heads::by_head;
 use crate::pairs::write_house_pairs;
 use table::format::Sizes;
 use writing::columns::Side;
@@ -43,7 +43,7 @@ fn write_rules_of_both(
     more + 2 * t.entries as usize
 }
 
-// One array, by the facts of both tables, of which there are n in all, and the tour's rules by their heads.
+// One array, by the facts of both tables, of which there are n in all.
 pub fn write_side(
     out: &mut [u8],
     at: usize,
@@ -55,15 +55,16 @@ pub fn write_side(
     facts: &[u8],
     others: &[u8],
     n: u16,
-    first: &[u16],
-    next: &[u16],
 )
     requires { ⌜ (at ≤ 40000) × Legal (now house) s × Legal (now tour) t × (n ≡ length (joined (contentIn (now house) s) (contentIn (now tour) t) .facts)) ⌝ }
-    requires { ⌜ MarkedBy (isFact (theoryIn (now house) s)) 1024 (now facts) × MarkedBy (isFact (theoryIn (now tour) t)) 1024 (now others) × ByHeads (theoryIn (now tour) t) (now first) (now next) ⌝ }
+    requires { ⌜ MarkedBy (isFact (theoryIn (now house) s)) 1024 (now facts) × MarkedBy (isFact (theoryIn (now tour) t)) 1024 (now others) ⌝ }
     ensures { λ _. ⌜ now (out .exit) ≡ withWords (now (out .entry)) at (map (wordIn side) (rowsOf (joined (contentIn (now (house .entry)) s) (contentIn (now (tour .entry)) t)))) ⌝ }
 {
+    let rules = by_head(tour, t);
+    let first = rules.first;
+    let next = rules.next;
     write_facts(out, at, side, facts, others, 2 * s.atoms as usize);
     let pairs = write_rules_of_both(out, at + 2 * n as usize, side, house, s, tour, t);
-    let last = write_house_pairs(out, pairs, side, house, s, first, next, t.rules);
+    let last = write_house_pairs(out, pairs, side, house, s, &first, &next, t.rules);
     write_pairs(out, last, side, tour, t, 0, t.pairs as usize, s.rules);
 }

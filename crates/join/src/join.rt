@@ -16,7 +16,6 @@ ghost use Rattle.joining.specs.Joining.{joined, joinedFile};
 ghost use Rattle.join.specs.Calls.{joinJudgement, JoinedLayouts, Joined};
 use crate::arrays::write_side;
 use crate::facts::facts_of;
-use crate::heads::by_head;
 use crate::totals::sizes_of;
 use crate::totals::too_large;
 use crate::totals::totals_of;
@@ -57,41 +56,13 @@ fn write_file(
     requires { ⌜ (sizes ≡ sizesFor (joined (contentIn (now house) s) (contentIn (now tour) t))) × (oversize sizes ≡ false) ⌝ }
     ensures { λ _. ⌜ now (out .exit) ≡ sets (now (out .entry)) 0 (fileOf edition (joined (contentIn (now (house .entry)) s) (contentIn (now (tour .entry)) t))) ⌝ }
 {
-    let rules = by_head(tour, t);
-    let first = rules.first;
-    let next = rules.next;
     let from = begin(out, edition);
     write_sizes(out, from, sizes);
     let left = from + 10;
-    write_side(
-        out,
-        left,
-        Side::Left,
-        house,
-        s,
-        tour,
-        t,
-        facts,
-        others,
-        sizes.facts,
-        &first,
-        &next,
-    );
     let right = left + 2 * sizes.span();
-    write_side(
-        out,
-        right,
-        Side::Right,
-        house,
-        s,
-        tour,
-        t,
-        facts,
-        others,
-        sizes.facts,
-        &first,
-        &next,
-    );
+    let n = sizes.facts;
+    write_side(out, left, Side::Left, house, s, tour, t, facts, others, n);
+    write_side(out, right, Side::Right, house, s, tour, t, facts, others, n);
 }
 
 // Two layouts that are legal, joined.
