@@ -1,4 +1,4 @@
--- The join of two tables without circles has none. Assumes nothing.
+-- The join of two relations without cycles, by steps from the one to the other alone, has none. Assumes nothing.
 use Prim.Native.Nat.{ℕ, _+_, _-_, _≤_, _<_}
 use native.Mathlib.Nat.{lt-irrefl, lt-of-lt-of-le}
 use mathlib.Core.Path.{refl}

@@ -13,7 +13,7 @@ use crate::range::bad_kind;
 use crate::range::out_of_range;
 use values::either;
 
-// The refusals, with document 01's number and word, or document 02's number. Numbers 8 and 9 are of the buffers of a call.
+// The refusals, with document 01's number and word, or document 02's number. Numbers 8, 9 and 12 are of the buffers of a call.
 pub enum Refusal {
     // 1, stub
     Truncated,
