@@ -1,5 +1,6 @@
 /* once FUNCTION [WHAT [WORDS]]: one call on the table on standard input, for count.sh to count. fly_sheet prints the sheet; fly_convert prints
- * the table in the other edition; fly_join takes the tour's file as WHAT, and prints the joined table; an engine
+ * the table in the other edition; fly_join takes the tour's file as WHAT, and prints the joined table; fly_parts prints the list, a word on each
+ * line, and fly_part, which takes an atom as WHAT, the part's table; an engine
  * (fly_run, c_run, flags_run) takes a budget as WHAT, and its answer and log are printed, a number on each line. WORDS of log are lent, or
  * enough for every table. WHAT may be `judge`: then no scratch is lent, and an accepted table is refused by 8 once it is judged, and none
  * is cleared. Any other refusal is an error. fly_stands takes a rule number as WHAT, and its answer is printed. Its log is made before the
@@ -53,6 +54,17 @@ static int join(const uint8_t *house, size_t len, const char *name)
     return got.refused != 0;
 }
 
+static int list_parts(const uint8_t *table, size_t len)
+{
+    static uint16_t list[FLY_MAX_ATOMS];
+    if (fly_parts(table, len, edition_of(len), list, FLY_MAX_ATOMS) != 0)
+        return 1;
+    const uint8_t *sizes = table + (edition_of(len) == FLY_TWO);
+    for (int a = 0; a < sizes[0] + 256 * sizes[1]; a++)
+        printf("%u\n", (unsigned)list[a]);
+    return 0;
+}
+
 int main(int argc, char **argv)
 {
     /* Aligned, so that the call's place on the stack does not hang on the environment's length: memset's count does on its address. */
@@ -71,6 +83,13 @@ int main(int argc, char **argv)
     }
     if (argc == 3 && strcmp(argv[1], "fly_join") == 0)
         return join(table, len, argv[2]);
+    if (argc == 2 && strcmp(argv[1], "fly_parts") == 0)
+        return list_parts(table, len);
+    if (argc == 3 && strcmp(argv[1], "fly_part") == 0) {
+        fly_written got = fly_part(table, len, edition_of(len), (uint32_t)strtoul(argv[2], NULL, 10), out, sizeof out);
+        fwrite(out, 1, got.bytes, stdout);
+        return got.refused != 0;
+    }
     if ((argc == 3 || argc == 4) && strcmp(argv[1], "fly_stands") == 0) {
         size_t lines = run_table(table, len, FLY_MAX_SPENT, log, FLY_LOG, scratch, FLY_SCRATCH).lines;
         size_t words = argc == 4 && lines != 0 ? strtoul(argv[3], NULL, 10) : lines;
@@ -85,7 +104,8 @@ int main(int argc, char **argv)
     engine *run = argc == 3 || argc == 4 ? named(argv[1]) : NULL;
     size_t words = argc == 4 ? strtoul(argv[3], NULL, 10) : FLY_LOG;
     if (run == NULL || words > FLY_LOG)
-        return fprintf(stderr, "usage: once fly_sheet | once fly_convert | once fly_join TOUR | once fly_stands RULE [WORDS] | "
+        return fprintf(stderr, "usage: once fly_sheet | once fly_convert | once fly_join TOUR | once fly_parts | once fly_part ATOM | "
+                               "once fly_stands RULE [WORDS] | "
                                "once fly_run|c_run|flags_run BUDGET|judge [WORDS, at most %d]\n", FLY_LOG), 2;
     int judging = strcmp(argv[2], "judge") == 0;
     fly_answer got = run(table, len, (uint32_t)strtoul(argv[2], NULL, 10), log, words, scratch, judging ? 0 : FLY_SCRATCH);

@@ -3,7 +3,8 @@
 chain: each literal rests on the one before; star: all rules on one atom, pairs among them; teams: for each atom two rules beat two;
 random: seeded; full: every size at 1/K of its limit, rules of every kind, 4 antecedents to each, each of the first rules over the 4 after
 it; house and tour: half of that each, with facts of both and two rules of the tour against two of the house on each of the first atoms; joined:
-the two in one table, with every size at 1/K of its limit and half of the pairs added; empty: nothing, for any K."""
+the two in one table, with every size at 1/K of its limit and half of the pairs added; up and down: rules from each atom to the next, or to the
+one before, round and round, with 4 antecedents each; empty: nothing, for any K."""
 import random, struct, sys
 shape, k = sys.argv[1], int(sys.argv[2])
 def table(a, facts, rules, pairs):
@@ -32,6 +33,11 @@ elif shape in ('house', 'tour', 'joined'):
 elif shape == 'chain':
     a, n = 512 // k, 1024 // k
     table(a, [0], [(1, 2 * (1 + i % (a - 1)), [2 * (i % (a - 1))]) for i in range(n)], [])
+elif shape in ('up', 'down'):
+    a, n = 512 // k, 1024 // k
+    atom = lambda i: i if shape == 'up' else a - 1 - i
+    steps = [(atom(i % (a - 1)), atom(i % (a - 1) + 1)) for i in range(n)]
+    table(a, [], [(i % 3, 2 * to, [2 * of, 2 * of + 1, 2 * to, 2 * to + 1]) for i, (of, to) in enumerate(steps)], [])
 elif shape == 'star':
     n, p = 1024 // k, 2048 // k
     table(1, [], [(1, i % 2, []) for i in range(n)], [(i // 4, i // 4 + 1 + 2 * (i % 4)) for i in range(p)])

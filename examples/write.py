@@ -1,6 +1,6 @@
 #!/usr/bin/env python3
 """Writes each example: NAME.table, the file that `./sheet-of` takes, and NAME.txt, what its atoms and rules mean. One is written in edition two
-as well, with the origins of its rules: NAME.two. One is the join of two others, made of them here.
+as well, with the origins of its rules: NAME.two. One is the join of two others, and one a part of another, made of them here.
 With --check it writes nothing, and fails unless these files are what it would write: for each other one a line says what differs first
 (a byte of a table, a line of a text, counted from 0), what came and what was wanted.
 
@@ -159,6 +159,28 @@ EXAMPLES["get-in-joined"] = (
     "They keep bar 2 where it is and the dock door shut, for the tour's rules are beaten there: hold. On bar 3 the house has a defeater,\n"
     "which the tour's rule does not beat and which proves nothing: split. Bar 1 stays too, though the house's rule is over the tour's:\n"
     "the tour's is strict and rests on a fact, and no priority helps against that: hold.",
+)
+
+
+def part(table, atom):
+    """Atoms, facts, rules and pairs of the part of an atom (document 02, S-8). Rules belong together that name one atom, and so on; they are
+    numbered anew."""
+    _, atoms, facts, rules, pairs, _ = table
+    of = lambda n: max(n, ~n)
+    named = [{of(n) for n in [*body, head]} for _, body, head in rules]
+    known = {atom}
+    while more := set().union(*(names for names in named if names & known)) - known:
+        known |= more
+    kept = [r for r, names in enumerate(named) if names & known]
+    inside = [(kept.index(t), kept.index(s)) for t, s in pairs if t in kept and s in kept]
+    return atoms, [f for f in facts if of(f) in known], [rules[r] for r in kept], inside
+
+
+EXAMPLES["bar-9"] = (
+    "Bar 9 alone: a part of the house against the tour (document 02, S-8)",
+    *part(EXAMPLES["house-and-tour"], 5),
+    "Of examples/house-and-tour.txt the part of atom 5: atoms 4 and 5, and rules 4 and 5 under the numbers 0 and 1. No rule there names one of\n"
+    "these atoms and one of the others, so bar 9 and the follow spot are open here as there. Of the other atoms this table says nothing: idle.",
 )
 
 # Whose the rules are, of the example that is written in edition two too.

@@ -12,15 +12,17 @@
  *
  * The edition. Every call but fly_sheet, which reads the old layout, is told the edition of its tables by a number, one of fly_edition. Any
  * other number is refused with FLY_TRUNCATED, whatever the tables are. What is concluded and what it costs do not depend on the edition, nor
- * on the origins. fly_convert writes a table in the other edition; fly_join reads two tables of one edition, and writes a third in it.
+ * on the origins. fly_convert writes a table in the other edition; fly_join reads two tables of one edition, and writes a third in it; fly_part
+ * writes in the edition that it reads.
  *
  * A line. The number 4q + tag: tag FLY_TAG(line) of literal FLY_LITERAL(line). Literal 2a says that atom a holds, literal 2a + 1 that it
  * does not: FLY_ATOM(line) is a, and FLY_OPPOSITE(line) is 1 where the line is about "it does not hold". The tags are in fly_tag.
  *
  * Buffers. Each may hold anything before a call. The scratch has FLY_SCRATCH words, for every table. The log has FLY_LOG words, for
- * every table, or 4A, for a table of A atoms. A sheet's buffer has FLY_SHEET bytes, the output of fly_convert and of fly_join FLY_MAX_TWO,
- * for every table, or as many as the new file. Longer ones serve as well; words and bytes past what is used are left alone. A length is a
- * count of elements: of words for log and scratch, of bytes for a table and an output.
+ * every table, or 4A, for a table of A atoms. The list of fly_parts has FLY_MAX_ATOMS words, for every table, or A. A sheet's buffer has
+ * FLY_SHEET bytes, the output of fly_convert, fly_join and fly_part FLY_MAX_TWO, for every table, or as many as the new file. Longer ones serve
+ * as well; words and bytes past what is used are left alone. A length is a count of elements: of words for log, scratch and list, of bytes for a
+ * table and an output.
  *
  * A short log, of fewer than 4A words, serves too if it has a word for each line that the run writes under its budget; else the call is
  * refused with FLY_SHORT_LOG. That is known at the end of the run alone, so the run is made in memory on the stack, and its lines are
@@ -32,13 +34,18 @@
  * nothing. Over the lines of a run no rule has +∂ for all its antecedents and −∂ for one; over words that give it both, firing comes
  * first. A call takes time in proportion to table and log.
  *
+ * Parts. Two atoms belong to one part if one rule names both, as its head's atom or an antecedent's, and so on through chains of rules. An atom
+ * that no rule names is a part of its own. Facts and pairs join nothing. fly_parts says for each atom which part is its own; fly_part writes one
+ * part's table, of which a run that finishes gives the part's literals the tags that a run of the whole gives them that finishes.
+ *
  * What a caller owes. Pointers are not NULL, even where a length is 0; each buffer has the length that is passed; buffers overlap neither
  * each other nor a table. Nothing else: what is wrong with a table or with a length is answered by a number (fly_refusal).
  *
  * Threads and stack. The functions keep no state between calls, allocate nothing, and call nothing of the C library but memcpy and
  * memset. Any number of threads may call them, each with its own buffers; a table, and the log of fly_stands, is only read and may be
  * shared. A run takes at most FLY_RUN_STACK bytes of stack, one with a short log FLY_SHORT_LOG_STACK, a sheet FLY_SHEET_STACK,
- * fly_stands FLY_STANDS_STACK, fly_convert FLY_CONVERT_STACK, and fly_join FLY_JOIN_STACK.
+ * fly_stands FLY_STANDS_STACK, fly_convert FLY_CONVERT_STACK, fly_join FLY_JOIN_STACK, fly_parts FLY_PARTS_STACK, and fly_part
+ * FLY_PART_STACK.
  *
  * The budget. A run spends at most its budget, and takes time in proportion to what it spends (docs/PERFORMANCE.md), after judging the
  * table, which takes time in proportion to the table. With a budget below A+F+N+B+P nothing is written. 5A+F+N+3B+3P finishes, and
@@ -77,6 +84,8 @@ extern "C" {
 #define FLY_STANDS_STACK 12288
 #define FLY_CONVERT_STACK 8192
 #define FLY_JOIN_STACK 24576
+#define FLY_PARTS_STACK 8192
+#define FLY_PART_STACK 16384
 
 /* a line, taken apart */
 #define FLY_LITERAL(line) ((line) / 4u)
@@ -112,21 +121,23 @@ enum fly_stand {
     FLY_WAITING = 2 /* neither */
 };
 
-/* Why a call is refused. The lowest number that applies is given; fly_stands gives a table's before that of a rule number, and fly_join has
- * an order of its own, which stands there. What is said of bytes is of those after the first in edition two. */
+/* Why a call is refused. The lowest number that applies is given; fly_stands gives a table's before that of a rule number, fly_part a table's
+ * before that of an atom, and fly_join has an order of its own, which stands there. What is said of bytes is of those after the first in edition
+ * two. */
 enum fly_refusal {
     FLY_TRUNCATED = 1,     /* the table has fewer than 10 bytes; edition two: no first byte, or another than 2; a number of no edition */
     FLY_TOO_LARGE = 2,     /* one of its five sizes is above its limit; fly_join: one of the joined table's is */
     FLY_WRONG_LENGTH = 3,  /* it does not have 10 + 4(F+N+B+P) bytes */
     FLY_BAD_KIND = 4,      /* a fact's left word is not 0, or a rule's is above 2; edition two: its kind is above 2, or its origin above 3 */
-    FLY_OUT_OF_RANGE = 5,  /* a literal is not below 2A, or a rule number not below N */
+    FLY_OUT_OF_RANGE = 5,  /* a literal is not below 2A, or a rule number not below N; fly_part: the atom is not below A */
     FLY_UNSORTED = 6,      /* facts, entries or pairs do not rise strictly */
     FLY_CYCLIC = 7,        /* the pairs lead from some rule back to itself */
     FLY_SHORT_SCRATCH = 8, /* the scratch has fewer than FLY_SCRATCH words */
-    FLY_SHORT_LOG = 9,     /* the run writes more lines than the log has words; fly_convert: the new file has more bytes than the output */
+    FLY_SHORT_LOG = 9,     /* the run writes more lines than the log has words; fly_convert: the new file has more bytes than the output;
+                            * fly_parts: the list has fewer than A words */
     FLY_HAS_ORIGIN = 10,   /* fly_convert: a rule has an origin, for which the old layout has no place */
     FLY_ATOMS_DIFFER = 11, /* fly_join: house and tour do not have the same number of atoms */
-    FLY_SHORT_OUTPUT = 12  /* fly_join: the joined table has more bytes than the output */
+    FLY_SHORT_OUTPUT = 12  /* fly_join, fly_part: the new table has more bytes than the output */
 };
 
 /* refused: 0, or the number of the refusal; then the other four are 0, and log and scratch are as they were. Else finished is 1 if
@@ -176,6 +187,21 @@ fly_written fly_convert(const uint8_t *table, size_t table_len, uint32_t edition
  * A call takes time in proportion to both tables and the new one. */
 fly_written fly_join(const uint8_t *house, size_t house_len, const uint8_t *tour, size_t tour_len, uint32_t edition, uint8_t *out,
                      size_t out_len);
+
+/* Lists the parts of a table: word a of the list becomes the smallest atom of the part of atom a, so that two atoms belong to one part if their
+ * words are equal. Returns 0, or the number of the refusal; then the list is as it was. A table that is refused is refused as by a run, and then
+ * a list of fewer than A words with FLY_SHORT_LOG. Words of the list past the first A are as they were. A call takes time nearly in proportion to
+ * the table, however the atoms are numbered. */
+uint32_t fly_parts(const uint8_t *table, size_t table_len, uint32_t edition, uint16_t *list, size_t list_len);
+
+/* Writes the table of one part, that of the atom named, in the same edition. It has the same A, and atoms keep their numbers; the part's facts;
+ * its rules in their order, numbered from 0, with their antecedents, kinds and origins; and the pairs of which both rules are the part's. It is
+ * never refused by 1 to 7 in its edition. In a run of it that finishes, each literal of the part's atoms has the tags that it has in a run of the
+ * whole table that finishes. What a run spends is not the same.
+ * A table that is refused is refused as by a run; then an atom that is not below A with FLY_OUT_OF_RANGE; then an output that is shorter than the
+ * new table with FLY_SHORT_OUTPUT. Bytes of the output past the new table are as they were. A call takes time nearly in proportion to the whole
+ * table. */
+fly_written fly_part(const uint8_t *table, size_t table_len, uint32_t edition, uint32_t atom, uint8_t *out, size_t out_len);
 
 #ifdef __cplusplus
 }

@@ -1,6 +1,6 @@
 #!/usr/bin/env python3
-"""Writes the cases made by hand into crates/cases/data: made.bin, told.bin, bodies.bin, readers.bin, longest.bin and conversions.bin.
-With --check it writes nothing, and fails unless the files are what it would write.
+"""Writes the cases made by hand into crates/cases/data: made.bin, told.bin, bodies.bin, readers.bin, longest.bin, conversions.bin, lists.bin
+and parted.bin. With --check it writes nothing, and fails unless the files are what it would write.
 
 A table is written as words, where | parts the sizes A F N B P, the left array and the right array. Each array has the facts,
 then the rules, the entries and the pairs. A number with ; after it is a byte, as the 2 before a table of edition two.
@@ -11,8 +11,9 @@ import sys
 
 DATA = os.path.join(os.path.dirname(os.path.abspath(__file__)), '..', '..', 'crates', 'cases', 'data')
 
-# Buffers that are longer than any run or conversion needs.
+# Buffers that are longer than any run, list of parts, conversion or part's table needs.
 LOG, SCRATCH, OUTPUT = 2051, 32773, 50000
+LIST = 600
 
 # The editions, and what stands before the layout in each.
 OLD, TWO = 1, 2
@@ -338,6 +339,59 @@ CONVERSIONS = [
 ]
 
 
+# Atoms 0 and 1 are one part, 2 and 3 another, and 4 is one alone. Rules 0 and 2 are the first one's, rules 1 and 3 the second's; two pairs go
+# across.
+THREE_PARTS = '5 5 4 2 4 | 0 0 0 0 0  1 0 2 1  0 1  0 0 1 3 | 0 3 5 6 8  2 7 3 6  0 4  1 2 3 2'
+
+
+def chain(order, missing=None):
+    """A rule from each atom of an order to the next, over 512 atoms; perhaps but for one of them."""
+    steps = [step for i, step in enumerate(zip(order, order[1:])) if i != missing]
+    rules, entries = [(1, 2 * to) for _, to in steps], [(r, 2 * of) for r, (of, _) in enumerate(steps)]
+    return large(f'512 0 {len(rules)} {len(entries)} 0', rules + entries)
+
+
+UP, DOWN = range(512), range(511, -1, -1)
+
+# What it is, the table, and the list of its parts.
+LISTS = [
+    ('no atoms', EMPTY, []),
+    ('case 1', CASE_1, [0, 0]),
+    ('a rule from a literal to itself', LOOP, [0]),
+    ('three parts', THREE_PARTS, [0, 0, 2, 2, 4]),
+    ('facts of two atoms', '2 2 0 0 0 | 0 0 | 0 2', [0, 1]),
+    ('a pair of rules about two atoms', '2 0 2 0 1 | 1 1 0 | 0 2 1', [0, 1]),
+    ('a defeater about complements', '3 0 1 1 0 | 2 0 | 5 3', [0, 1, 1]),
+    ('a rule with three antecedents', '6 0 1 3 0 | 1 0 0 0 | 2 6 8 11', [0, 1, 2, 1, 1, 1]),
+    ('two rules with one head', '4 0 2 2 0 | 1 1 0 1 | 6 7 2 4', [0, 1, 1, 1]),
+    ('512 atoms', ATOMS_512, list(range(512))),
+    ('a chain upwards', chain(UP), [0] * 512),
+    ('a chain downwards', chain(DOWN), [0] * 512),
+    ('a chain upwards but for the rule after atom 255', chain(UP, 255), [0] * 256 + [256] * 256),
+    ('a chain downwards but for the rule after atom 256', chain(DOWN, 255), [0] * 256 + [256] * 256),
+]
+
+# What it is, the table, an atom, and the part's table.
+PARTED = [
+    ('case 1', CASE_1, 0, CASE_1),
+    ('case 1, by the other atom', CASE_1, 1, CASE_1),
+    ('the first of three parts', THREE_PARTS, 1, '5 2 2 1 1 | 0 0 1 2 0 0 | 0 3 2 3 0 1'),
+    ('the second of three parts', THREE_PARTS, 3, '5 2 2 1 1 | 0 0 0 1 0 0 | 5 6 7 6 4 1'),
+    ('an atom that no rule names', THREE_PARTS, 4, '5 1 0 0 0 | 0 | 8'),
+    ('512 atoms', ATOMS_512, 511, ATOMS_512),
+    ('a chain upwards', chain(UP), 511, chain(UP)),
+    ('a chain downwards', chain(DOWN), 511, chain(DOWN)),
+]
+
+# Origins of the four rules, and then of rules 0 and 2 alone.
+OWNED = MARK + '5 5 4 2 4 | 0 0 0 0 0  5 8 14 1  0 1  0 0 1 3 | 0 3 5 6 8  2 7 3 6  0 4  1 2 3 2'
+OWNED_PART = MARK + '5 2 2 1 1 | 0 0 5 14 0 0 | 0 3 2 3 0 1'
+
+# A table for each of the refusals 1 to 7. Of those from 4 on each has the faults of the next ones, and A is 1.
+REFUSED = ['1 0 0 0', '513 0 0 0 0', '1 0 1 0 0 | 1', '1 2 1 0 1 | 0 0 3 0 | 2 0 0 0', '1 2 1 0 1 | 0 0 1 0 | 2 0 0 0',
+           '1 2 1 0 1 | 0 0 1 0 | 1 0 0 0', CIRCLE]
+
+
 def words(text):
     """The bytes of a text: two for each word, one for a number with ; after it."""
     parts = text.replace('|', ' ').split()
@@ -445,6 +499,47 @@ def conversions():
     return b''.join(conversion(*row) for row in conversion_rows())
 
 
+def list_record(table, edition, length, refusal, parts):
+    """A record in the layout of parts.bin."""
+    return field(table) + numbers(edition, length, refusal) + field(b'' if refusal else struct.pack(f'<{len(parts)}H', *parts))
+
+
+def lists():
+    """The rows of LISTS by lists around A words, and those of REFUSED whatever list there is."""
+    rows = [(table, n, 9 if n < len(parts) else 0, parts)
+            for _, table, parts in LISTS for n in sorted({max(0, len(parts) - 1), len(parts), len(parts) + 1, LIST})]
+    rows += [(table, n, refusal, []) for refusal, table in enumerate(REFUSED, 1) for n in (0, LIST)]
+    return b''.join(list_record(words(BEFORE[edition] + table), edition, *row) for edition in (OLD, TWO) for table, *row in rows)
+
+
+def part_record(table, edition, atom, output, refusal, part):
+    """A record in the layout of part-tables.bin."""
+    return field(table) + numbers(edition, atom, output, refusal) + field(b'' if refusal else part)
+
+
+def parted_rows():
+    """The rows of PARTED and OWNED by outputs around the part's byte count, atoms that there are not, and those of REFUSED by any atom."""
+    rows = [(edition, atom, *(BEFORE[edition] + text for text in (table, part)))
+            for edition in (OLD, TWO) for _, table, atom, part in PARTED]
+    for edition, atom, table, part in rows + [(TWO, 0, OWNED, OWNED_PART)]:
+        n = len(words(part))
+        for output in 0, n - 1, n, n + 1, OUTPUT:
+            yield table, edition, atom, output, 12 if output < n else 0, part
+    for edition in OLD, TWO:
+        for table, a in (EMPTY, 0), (CASE_1, 2), (THREE_PARTS, 5), (ATOMS_512, 512):
+            for atom in a, a + 1, 65535, 65536, 2 ** 32 - 1:
+                for output in 0, OUTPUT:
+                    yield BEFORE[edition] + table, edition, atom, output, 5, EMPTY
+        for refusal, table in enumerate(REFUSED, 1):
+            for atom in 0, 1, 65536:
+                for output in 0, OUTPUT:
+                    yield BEFORE[edition] + table, edition, atom, output, refusal, EMPTY
+
+
+def parted():
+    return b''.join(part_record(words(table), *row, words(part)) for table, *row, part in parted_rows())
+
+
 # What writes each file.
 FILES = {
     'made.bin': made,
@@ -453,6 +548,8 @@ FILES = {
     'readers.bin': readers,
     'longest.bin': longest,
     'conversions.bin': conversions,
+    'lists.bin': lists,
+    'parted.bin': parted,
 }
 
 

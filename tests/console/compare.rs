@@ -9,16 +9,19 @@
 //! lent part on both sides and hold noise before the call), and the table. For every call of fly_sheet: the length, the text, zeros
 //! past it, the bytes around the buffer, and the table. For every call of fly_stands: the two numbers, the log with the words around it,
 //! and the table. For every call of fly_convert: the two numbers, every byte of the output's buffer (likewise with noise, and past the
-//! lent part), and the table. For every call of fly_join the same, and both tables. The lengths lent are around the limits: of the log the
-//! lines that the run writes under its budget, and 4A; of the output the byte count of the new file. By the lines of a run no rule may both
-//! fire and be out. A table with origins runs like the same without them, in both editions, and a table that is converted there and back is
-//! the table again. A joined table is accepted, and by the log of its finished run the house's rules have what S-7 promises them. The first
-//! mismatch is printed and ends the program with status 1: where the table comes from and what differs first (records, words, bytes and lines
-//! are counted from 0). What is printed at the end is how often each verdict stood on a sheet, and how often each answer came, in the old
-//! layout and in edition two, among them lines in a log below 4A words (a short log), and short logs that a larger budget outgrows. Each must
-//! have come often enough, unless fewer CALLS (of fly_run) than the default are asked for.
+//! lent part), and the table. For every call of fly_join the same, and both tables. For every call of fly_parts the number, every word of the
+//! list's buffer (likewise), and the table; for every call of fly_part what there is for a conversion. The lengths lent are around the limits: of
+//! the log the lines that the run writes under its budget, and 4A; of the list A; of the output the byte count of the new file. By the lines of a
+//! run no rule may both fire and be out. A table with origins runs like the same without them, in both editions, and a table that is converted
+//! there and back is the table again. A joined table is accepted, and by the log of its finished run the house's rules have what S-7 promises
+//! them. So is a part's table, and finished runs of it and of the whole give the part's atoms the same tags. The first mismatch is printed and
+//! ends the program with status 1: where the table comes from and what differs first (records, words, bytes and lines are counted from 0). What
+//! is printed at the end is how often each verdict stood on a sheet, and how often each answer came, in the old layout and in edition two, among
+//! them lines in a log below 4A words (a short log), and short logs that a larger budget outgrows. Each must have come often enough, unless
+//! fewer CALLS (of fly_run) than the default are asked for.
 //!
-//! --vectors DIR: base.bin, sheets-S6.bin, short-logs.bin, editions.bin and joins.bin there, against both engines, before the CALLS.
+//! --vectors DIR: base.bin, sheets-S6.bin, short-logs.bin, editions.bin, joins.bin, parts.bin and part-tables.bin there, against both engines,
+//! before the CALLS.
 //! --mutant K: the test's own test, of fewer CALLS. A deliberate fault in the slow engine or in what is expected of the buffers, which
 //! must end in a mismatch.
 //! --mutants: the number and the fault of each, a line for each K.
@@ -26,7 +29,7 @@
 mod slow;
 mod tables;
 
-use slow::{mutant, Answer, Join, Run, Standing, Written, FIRING, OLD, OUT, SCRATCH, TWO, WAITING};
+use slow::{mutant, Answer, Join, Listing, Part, Run, Standing, Written, FIRING, OLD, OUT, SCRATCH, TWO, WAITING};
 use std::fmt::Debug;
 use std::ops::Range;
 use std::sync::atomic::Ordering::Relaxed;
@@ -55,6 +58,8 @@ extern "C" {
         out: *mut u8,
         out_len: usize,
     ) -> Written;
+    fn fly_parts(table: *const u8, table_len: usize, edition: u32, list: *mut u16, list_len: usize) -> u32;
+    fn fly_part(table: *const u8, table_len: usize, edition: u32, atom: u32, out: *mut u8, out_len: usize) -> Written;
 }
 
 const SEED: u64 = 20_260;
@@ -62,7 +67,7 @@ const CALLS: u64 = 780_000;
 const MUTANT_CALLS: u64 = 9_200; // the mutant that is caught last needs 9,010
 const SHEET: usize = 5_041;
 const GUARD: usize = 32; // the most words or bytes of a buffer before the lent part, and the least past it
-const LOG_MOST: usize = 4_096; // the longest log lent
+const LOG_MOST: usize = 4_096; // the longest log and the longest list lent
 const SCRATCH_MOST: usize = SCRATCH + 1_024; // the longest scratch lent
 const OUT_MOST: usize = 40_000; // the longest output lent
 
@@ -164,6 +169,35 @@ const MUTANTS: &[&str] = &[
     "a pair is added for equal heads too",
     "a join answers with a byte count beside 12",
     "12 for an output that has fewer than ten bytes more than the joined file",
+    "the antecedents of a rule connect, its head does not",
+    "the rules of a pair connect",
+    "facts connect",
+    "the list has the largest atom of a part",
+    "atoms connect by one rule, and not through chains",
+    "a part is written in the other edition",
+    "an atom cut to 16 bits",
+    "a defeater does not connect",
+    "a complement does not connect",
+    "the first antecedent of a rule connects, and no other",
+    "the word past the list becomes 0",
+    "9 for a list before the table's refusal",
+    "9 for a list of A words",
+    "the lowest number that applies to a part",
+    "12 before 5 of an atom",
+    "a part answers with a byte count beside 12",
+    "12 by the byte count of the whole table",
+    "a part is that of the atoms whose word is the atom named",
+    "a part's A is the number of its atoms",
+    "a part's atoms are numbered anew",
+    "a part's rules keep their numbers",
+    "a part has the facts of all others",
+    "a part's rules have no origins",
+    "a pair is kept by one rule of a part",
+    "a rule without antecedents belongs to no part",
+    "the facts of an atom that no rule names belong to no part",
+    "the byte past a part's file becomes 0",
+    "a refused list writes the first word",
+    "a refused part writes the first byte",
 ];
 
 /// How often each answer came for tables of one edition.
@@ -180,6 +214,7 @@ struct Counts {
     converted: u64,
     not_converted: [u64; 11], // by the number of the refusal
     joins: Joins,
+    parts: Parts,
 }
 
 /// How often each answer of a join came.
@@ -196,6 +231,26 @@ struct Joins {
     wrapped: u64,         // 2, where there are more pairs than 16 bits count
     large_and_short: u64, // 2, where the output is too short too
     too_short: u64,       // 12
+}
+
+/// How often each answer of a list of parts came, and of a part's table.
+#[derive(Default)]
+struct Parts {
+    listed: u64,
+    list_fitted: u64,       // listed, in a list of A words
+    several: u64,           // listed, some atoms of one part and some of others
+    not_listed: [u64; 8],   // by the number of the table's refusal
+    refused_and_short: u64, // such, where the list is below A words too
+    short_lists: u64,       // 9
+    parted: u64,
+    fitted: u64,              // parted, in an output that has no byte more than the file
+    smaller: u64,             // parted, the part with rules and less than the whole
+    cut: u64,                 // parted, without pairs of which one rule is the part's
+    not_parted: [u64; 8],     // by the number of the table's refusal
+    refused_and_strange: u64, // such by 6 or 7, where the atom is not below A too
+    strange: u64,             // 5 of the atom
+    strange_and_short: u64,   // such, where the output is too short for any table
+    too_short: u64,           // 12
 }
 
 const VERDICTS: [&str; 6] = ["clash", "go", "hold", "idle", "split", "open"];
@@ -230,6 +285,9 @@ impl Counts {
             refusals("joins, the house ", &[1, 2, 3, 4, 5, 6, 7], &self.joins.of_house),
             refusals("joins, the tour ", &[1, 2, 3, 4, 5, 6, 7], &self.joins.of_tour),
             self.joins.list(edition),
+            refusals("lists of parts ", &[1, 2, 3, 4, 5, 6, 7], &self.parts.not_listed),
+            refusals("parts ", &[1, 2, 3, 4, 5, 6, 7], &self.parts.not_parted),
+            self.parts.list(edition),
         ]
         .concat()
     }
@@ -283,6 +341,67 @@ impl Joins {
     }
 }
 
+impl Parts {
+    /// The answers but for the refusals of the table.
+    fn list(&self, edition: &str) -> Vec<Count> {
+        let list = [
+            ("lists of parts", self.listed, 10_000),
+            ("lists of parts, the list just long enough", self.list_fitted, 5_000),
+            ("lists of several parts", self.several, 10_000),
+            ("lists of parts refused by the table, the list too short as well:", self.refused_and_short, 2_000),
+            ("lists of parts refused 9:", self.short_lists, 5_000),
+            ("parts written", self.parted, 10_000),
+            ("parts written, the output just long enough", self.fitted, 5_000),
+            ("parts written that are not the whole", self.smaller, 5_000),
+            ("parts written without pairs across", self.cut, 2_000),
+            ("parts refused by 6 or 7, the atom strange as well:", self.refused_and_strange, 500),
+            ("parts refused 5 by the atom:", self.strange, 5_000),
+            ("parts refused 5 by the atom, the output too short as well:", self.strange_and_short, 1_000),
+            ("parts refused 12:", self.too_short, 5_000),
+        ];
+        list.into_iter().map(|(what, came, least)| counted(&format!("{edition}{what}"), came, least)).collect()
+    }
+
+    /// The answer of a list of this length.
+    fn count_list(&mut self, listing: &Listing, refused: u32, list_len: usize) {
+        let (parts, most) = listing.parts_and_most();
+        match (listing.judged, refused) {
+            (0, 0) => {
+                self.listed += 1;
+                self.list_fitted += (list_len == listing.a) as u64;
+                self.several += (parts > 1 && most > 1) as u64;
+            }
+            (0, _) => self.short_lists += 1,
+            (number, _) => {
+                self.not_listed[number as usize] += 1;
+                self.refused_and_short += (list_len < listing.a) as u64;
+            }
+        }
+    }
+
+    /// The answer of a part of this table with an output of this length.
+    fn count(&mut self, t: &Table, part: &Part, answer: &Written, out_len: usize) {
+        let len = part.file.len();
+        match (part.judged, answer.refused) {
+            (0, 0) => {
+                self.parted += 1;
+                self.fitted += (out_len == len) as u64;
+                self.smaller += (len < t.bytes.len() && rules(&Table { bytes: part.file.clone(), ..*t }) != 0) as u64;
+                self.cut += (part.cut != 0) as u64;
+            }
+            (0, 5) => {
+                self.strange += 1;
+                self.strange_and_short += (out_len < 10) as u64;
+            }
+            (0, _) => self.too_short += 1,
+            (number, _) => {
+                self.not_parted[number as usize] += 1;
+                self.refused_and_strange += (number > 5 && part.strange) as u64;
+            }
+        }
+    }
+}
+
 struct Bench {
     rng: Rng,
     base: Vec<u16>,
@@ -308,6 +427,10 @@ struct Bench {
     returned: u64,       // tables that came back from the other edition
     claimed: u64,        // house rules of which S-7 promises that their heads have +∂
     contested: u64,      // those of them against which a tour's rule fires
+    lists: u64,
+    parts: u64,
+    accepted: u64,     // tables of parts that are accepted
+    tagged_alike: u64, // parts whose atoms have the tags that the whole gives them
 }
 
 /// The k-th of the five sizes, or 0 if the table ends before it.
@@ -428,6 +551,10 @@ impl Bench {
             returned: 0,
             claimed: 0,
             contested: 0,
+            lists: 0,
+            parts: 0,
+            accepted: 0,
+            tagged_alike: 0,
         }
     }
 
@@ -472,14 +599,20 @@ impl Bench {
         at..at + out_len
     }
 
+    /// Noise in the log's buffer, which is a list's too. Returns the part of it that is lent.
+    fn lend_words(&mut self, len: usize) -> Range<usize> {
+        let at = self.rng.within(1, GUARD);
+        fill(&mut self.log, &self.base, self.rng.next());
+        self.log_expected.copy_from_slice(&self.log);
+        at..at + len
+    }
+
     /// Noise in both buffers. Returns the parts of them that are lent.
     fn lend_buffers(&mut self, log_len: usize, scratch_len: usize) -> (Range<usize>, Range<usize>) {
-        let (log_at, scratch_at) = (self.rng.within(1, GUARD), self.rng.within(1, GUARD));
-        fill(&mut self.log, &self.base, self.rng.next());
+        let (log, at) = (self.lend_words(log_len), self.rng.within(1, GUARD));
         fill(&mut self.scratch, &self.base, self.rng.next());
-        self.log_expected.copy_from_slice(&self.log);
         self.scratch_expected.copy_from_slice(&self.scratch);
-        (log_at..log_at + log_len, scratch_at..scratch_at + scratch_len)
+        (log, at..at + scratch_len)
     }
 
     /// "Log words past the lines are untouched; on every accepted call the first 32,768 scratch words are 0 and the rest untouched."
@@ -761,6 +894,143 @@ impl Bench {
         }
     }
 
+    /// One call of fly_parts and all that is compared for it: "Refusals write nothing, and words or bytes past the result are untouched." The
+    /// listing is the slow engine's.
+    fn list(&mut self, t: &Table, listing: &Listing, list_len: usize) {
+        let (expected, n) = (listing.refused(list_len), listing.words.len());
+        let at = self.lend_table(&t.bytes);
+        let list = self.lend_words(list_len);
+        let wanted = &mut self.log_expected[list.clone()];
+        if expected == 0 {
+            wanted.iter_mut().zip(&listing.words).for_each(|(w, &a)| *w = a as u16);
+        }
+        if mutant(103) && expected == 0 && n < list_len {
+            wanted[n] = 0;
+        }
+        if mutant(120) && expected != 0 && list_len != 0 {
+            wanted[0] = 0;
+        }
+        let (lent, words) = (&self.table[at..at + t.bytes.len()], self.log[list.clone()].as_mut_ptr());
+        let came = unsafe { fly_parts(lent.as_ptr(), lent.len(), t.edition, words, list_len) };
+        self.lists += 1;
+        let difference = numbers_differ(&["refused"], &[came], &[expected])
+            .or_else(|| elements_differ("list word", &self.log, &self.log_expected, list.start))
+            .or_else(|| self.table_altered(at, &t.bytes));
+        if let Some(what) = difference {
+            let call = format!("list {} after call {} edition {} list_len {list_len}", self.lists, self.calls, t.edition);
+            let lists = format!("archive {came} {:?}\nslow    {expected} {:?}", &self.log[list], listing.words);
+            self.mismatch(&format!("list of parts: {what}"), &t.bytes, format!("{call}\n{lists}"));
+        }
+        self.counts(t).parts.count_list(listing, expected, list_len);
+    }
+
+    /// One call of fly_part and all that is compared for it, likewise; the part is the slow engine's. What is written must be as S-8 says.
+    fn part(&mut self, t: &Table, atom: u32, part: &Part, out_len: usize) {
+        let expected = part.answer(out_len);
+        let file: &[u8] = if expected.refused == 0 { &part.file } else { &[] };
+        let at = self.lend_table(&t.bytes);
+        let out = self.lend_output(out_len);
+        let mut wanted = self.out.clone();
+        wanted[out.start..out.start + file.len()].copy_from_slice(file);
+        if mutant(119) && expected.refused == 0 && file.len() < out_len {
+            wanted[out.start + file.len()] = 0;
+        }
+        if mutant(121) && expected.refused != 0 && out_len != 0 {
+            wanted[out.start] = 2;
+        }
+        let (lent, bytes) = (&self.table[at..at + t.bytes.len()], self.out[out.clone()].as_mut_ptr());
+        let came = unsafe { fly_part(lent.as_ptr(), lent.len(), t.edition, atom, bytes, out_len) };
+        self.parts += 1;
+        let difference = written_differs(&came, &expected)
+            .or_else(|| elements_differ("output byte", &self.out, &wanted, out.start))
+            .or_else(|| self.table_altered(at, &t.bytes));
+        if let Some(what) = difference {
+            let number = format!("part {} after call {}", self.parts, self.calls);
+            let call = format!("{number} edition {} atom {atom} out_len {out_len}", t.edition);
+            let numbers = format!("archive {came:?}\nslow    {expected:?}");
+            let files = format!("archive output {}\nslow    file   {}", hex(&self.out[out]), hex(file));
+            self.mismatch(&format!("part: {what}"), &t.bytes, format!("{call}\n{numbers}\n{files}"));
+        }
+        self.counts(t).parts.count(t, part, &expected, out_len);
+        if came.refused == 0 {
+            let of_part = Table { edition: t.edition, bytes: self.out[out][..came.bytes as usize].to_vec() };
+            self.accepted(&of_part);
+            if self.rng.chance(1, 4) {
+                self.tagged_alike(t, &of_part, part, atom as usize);
+            }
+        }
+    }
+
+    /// The archive accepts a part's table: without scratch a table is refused by 8 once it is judged, and by nothing lower.
+    fn accepted(&mut self, t: &Table) {
+        let (log, scratch) = (self.log.as_mut_ptr(), self.scratch.as_mut_ptr());
+        let answer = unsafe { fly_run(t.bytes.as_ptr(), t.bytes.len(), t.edition, 0, log, 0, scratch, 0) };
+        if answer.refused != 8 {
+            self.mismatch("a part's table is not accepted", &t.bytes, format!("archive {answer:?}"));
+        }
+        self.accepted += 1;
+    }
+
+    /// "gives that part's atoms the same tags as the whole, given budgets that finish both".
+    fn tagged_alike(&mut self, whole: &Table, of_part: &Table, part: &Part, atom: usize) {
+        self.alone(whole);
+        let lines = self.lines.clone();
+        let answer = self.alone(of_part);
+        if answer.refused != 0 || answer.finished != 1 {
+            self.mismatch("a part's table does not run to its finish", &of_part.bytes, format!("archive {answer:?}"));
+        }
+        if let Some(a) = slow::tagged_otherwise(&part.words, atom, &self.lines, &lines) {
+            let logs = format!("whole {}\nits log {lines:?}\nthe part's {:?}", hex(&whole.bytes), self.lines);
+            self.mismatch(&format!("atom {a} has other tags in its part"), &of_part.bytes, logs);
+        }
+        self.tagged_alike += 1;
+    }
+
+    /// A lent length of the list: A words, or around that.
+    fn list_len(&mut self, t: &Table) -> usize {
+        let a = atoms(t).min(LOG_MOST - 64);
+        let (more, less) = (self.rng.within(a, LOG_MOST), self.rng.below(a + 1));
+        self.rng.pick(&[a, a, a, a + 1, a + 40, less_one(a), less_one(a), 0, less, more, LOG_MOST])
+    }
+
+    /// An atom: of the table, or around A, or one whose lowest bits are those of an atom.
+    fn atom(&mut self, t: &Table) -> u32 {
+        let a = atoms(t) as u32;
+        let (below, any) = (self.rng.below(a as usize) as u32, self.rng.next() as u32);
+        let high = below + (1 << self.rng.within(16, 31));
+        if self.rng.chance(3, 4) {
+            below
+        } else {
+            self.rng.pick(&[0, a.saturating_sub(1), a, a, a + 1, 2 * a, 511, 512, 65_535, 65_536 + below, high, u32::MAX, any])
+        }
+    }
+
+    /// The list of a table's parts, by a list of any length, and the part of some atom, by an output of any length.
+    fn parts_any(&mut self, t: &Table) {
+        let (listing, list_len) = (slow::listing(&t.bytes, t.edition), self.list_len(t));
+        self.list(t, &listing, list_len);
+        let atom = self.atom(t);
+        let part = slow::part(&t.bytes, t.edition, atom);
+        let new = if part.file.is_empty() { t.bytes.len() } else { part.file.len() };
+        let out_len = self.out_len(new.min(OUT_MOST - 64));
+        self.part(t, atom, &part, out_len);
+    }
+
+    /// Every list length around A, and of every part every output length around the byte count of its file; of many atoms those of some.
+    fn parts_lengths(&mut self, t: &Table) {
+        let (a, listing) = (atoms(t), slow::listing(&t.bytes, t.edition));
+        for list_len in [0, 1, less_one(a), a, a + 1, a + 40, LOG_MOST] {
+            self.list(t, &listing, list_len);
+        }
+        for atom in (0..a as u32 + 2).step_by(1 + a / 8).chain([less_one(a) as u32]) {
+            let part = slow::part(&t.bytes, t.edition, atom);
+            let new = part.file.len();
+            for out_len in [0, 9, 10, 11, new.saturating_sub(2), less_one(new), new, new + 1, new + 40, OUT_MOST] {
+                self.part(t, atom, &part, out_len);
+            }
+        }
+    }
+
     /// A rule number: of a rule, or around N, or one whose lowest bits are those of a rule.
     fn rule(&mut self, t: &Table) -> u32 {
         let n = rules(t);
@@ -983,6 +1253,9 @@ impl Bench {
             if i % 12 == 0 {
                 self.alike(&d);
             }
+            if i % 2 == 0 {
+                self.parts_any(&t);
+            }
         }
     }
 
@@ -1000,6 +1273,8 @@ impl Bench {
             }
             if i % 3 != 0 {
                 self.there_and_back(&t);
+            } else {
+                self.parts_any(&t);
             }
         }
         for i in 0..8 {
@@ -1024,6 +1299,7 @@ impl Bench {
         self.some_stand(&t, of_table(&answer), 1);
         self.there_and_back(&t);
         self.join_any(&t, &t);
+        self.parts_any(&t);
     }
 
     /// Small houses and tours, legal and damaged on either side, in both editions.
@@ -1061,6 +1337,18 @@ impl Bench {
         }
     }
 
+    /// Tables of several parts, small ones, of which some are damaged, and a larger one, in both editions.
+    fn scattered_tables(&mut self, most: usize) {
+        for i in 0..24 {
+            let (d, edition) = (tables::small_scattered(&mut self.rng), self.rng.pick(&[OLD, TWO]));
+            let t = self.perhaps_damaged(d, edition, i % 3 == 2);
+            self.parts_any(&t);
+        }
+        let (d, edition) = (tables::large_scattered(&mut self.rng, most), self.rng.pick(&[OLD, TWO]));
+        let t = self.legal(&d, edition);
+        self.parts_any(&t);
+    }
+
     /// A draft with faults, under `count` budgets.
     fn damaged(&mut self, d: &Draft, edition: u32, count: usize) {
         for _ in 0..count {
@@ -1072,7 +1360,7 @@ impl Bench {
         }
     }
 
-    /// A random part of about 205 calls, 13 sheets, 140 standings, 60 conversions and 47 joins.
+    /// A random part of about 205 calls, 13 sheets, 140 standings, 60 conversions, 47 joins, 54 lists of parts and as many parts.
     fn round(&mut self, number: u64) {
         let edition = if number % 4 == 3 { TWO } else { OLD };
         self.place = format!("round {number}");
@@ -1094,6 +1382,7 @@ impl Bench {
         self.damaged(&d, edition, 1);
         self.couples();
         self.great_couples();
+        self.scattered_tables(if number % 17 == 0 { LIMITS[0] } else { 60 });
         if number % 17 == 0 {
             let d = tables::large(&mut self.rng);
             let t = self.legal(&d, edition);
@@ -1117,6 +1406,8 @@ impl Bench {
         self.circles();
         self.bytes_of_a_couple();
         self.joined_sizes();
+        self.bytes_of_a_table_of_parts();
+        self.chains();
     }
 
     fn bytes_of_case_1(&mut self, case_1: &Table) {
@@ -1147,6 +1438,7 @@ impl Bench {
         self.lengths(&with_origins(&case_1), 13);
         for t in [case_1.clone(), itself(), old(&[0; 10]), old(&tables::sized(0, 512)), old(&[0; 9])] {
             in_editions(&t).iter().for_each(|t| self.output_lengths(t));
+            in_editions(&t).iter().for_each(|t| self.parts_lengths(t));
         }
     }
 
@@ -1256,6 +1548,30 @@ impl Bench {
         }
     }
 
+    /// Every byte of a table of three parts at every value.
+    fn bytes_of_a_table_of_parts(&mut self) {
+        for whole in [three_parts(), with_origins(&three_parts())] {
+            self.place = format!("every byte of a table of three parts in edition {} at every value", whole.edition);
+            for i in 0..whole.bytes.len() {
+                for value in 0..=255 {
+                    let mut t = whole.clone();
+                    t.bytes[i] = value;
+                    self.parts_any(&t);
+                }
+            }
+        }
+    }
+
+    /// Chains over all atoms, numbered upwards, downwards and otherwise, whole and with a rule missing.
+    fn chains(&mut self) {
+        for (name, order) in orders() {
+            for missing in [None, Some(0), Some(255), Some(256), Some(510)] {
+                self.place = format!("a chain over all atoms, {name}, without rule {missing:?}");
+                in_editions(&chained(&order, missing)).iter().for_each(|t| self.parts_lengths(t));
+            }
+        }
+    }
+
     /// The limits of every size, and past the end of the longest table.
     fn big_tables(&mut self) {
         for shape in 0..tables::BIG_SHAPES {
@@ -1266,6 +1582,7 @@ impl Bench {
                 // shape 2 is the longest table there is
                 assert!(shape != 2 || t.layout().len() == 32_778 && t.layout()[..2] == 512u16.to_le_bytes());
                 self.great(&t, 3);
+                self.parts_lengths(&t);
                 self.big_and_bad(&d, &t);
             }
         }
@@ -1373,7 +1690,39 @@ impl Bench {
         self.join(house, tour, &join, out_len);
     }
 
-    /// A refusal of the table, which every call must give, whatever is lent and whatever rule is named.
+    /// A list of parts that must be given, against both engines, likewise; 0 or the refusal, and the words.
+    fn gives_list(&mut self, t: &Table, list_len: usize, refused: u32, wanted: &[usize]) {
+        let listing = slow::listing(&t.bytes, t.edition);
+        let came = listing.refused(list_len);
+        let words: &[usize] = if came == 0 { &listing.words } else { &[] };
+        let difference = numbers_differ(&["refused"], &[came], &[refused])
+            .or_else(|| elements_differ("list word", words, wanted, 0))
+            .filter(|_| mutant(0));
+        if let Some(what) = difference {
+            let call = format!("edition {} list_len {list_len}", t.edition);
+            let lists = format!("slow   {came} {words:?}\nwanted {refused} {wanted:?}");
+            self.mismatch(&format!("slow engine: list of parts: {what}"), &t.bytes, format!("{call}\n{lists}"));
+        }
+        self.list(t, &listing, list_len);
+    }
+
+    /// A part that must be given, against both engines, likewise; 0 or the refusal, and the part's file.
+    fn gives_part(&mut self, t: &Table, atom: u32, out_len: usize, refused: u32, wanted: &[u8]) {
+        let part = slow::part(&t.bytes, t.edition, atom);
+        let came = part.answer(out_len);
+        let file: &[u8] = if came.refused == 0 { &part.file } else { &[] };
+        let difference = written_differs(&came, &Written { refused, bytes: wanted.len() as u32 })
+            .or_else(|| elements_differ("byte", file, wanted, 0))
+            .filter(|_| mutant(0));
+        if let Some(what) = difference {
+            let call = format!("edition {} atom {atom} out_len {out_len}", t.edition);
+            let files = format!("slow   {came:?} {}\nwanted {refused} {}", hex(file), hex(wanted));
+            self.mismatch(&format!("slow engine: part: {what}"), &t.bytes, format!("{call}\n{files}"));
+        }
+        self.part(t, atom, &part, out_len);
+    }
+
+    /// A refusal of the table, which every call must give, whatever is lent and whatever rule or atom is named.
     fn gives_refusal(&mut self, t: &Table, number: u32) {
         self.gives(t, u32::MAX, LOG_MOST, SCRATCH, &refusal(number));
         self.gives(t, 0, 0, 0, &refusal(number));
@@ -1383,6 +1732,12 @@ impl Bench {
         for out_len in [0, new_len(t), OUT_MOST] {
             self.gives_conversion(t, out_len, number, &[]);
             self.gives_join(t, t, out_len, number, &[]);
+            for atom in [0, 512, 65_536] {
+                self.gives_part(t, atom, out_len, number, &[]);
+            }
+        }
+        for list_len in [0, atoms(t).min(LOG_MOST), LOG_MOST] {
+            self.gives_list(t, list_len, number, &[]);
         }
     }
 
@@ -1433,6 +1788,8 @@ impl Bench {
         self.left_words();
         self.join_cases();
         self.join_orders();
+        self.list_cases();
+        self.part_cases();
     }
 
     fn standing_cases(&mut self) {
@@ -1546,6 +1903,54 @@ impl Bench {
         }
     }
 
+    /// In the old layout, in edition two, and there with origins; by lists around A words.
+    fn list_cases(&mut self) {
+        for (name, t, words) in lists() {
+            self.place = format!("document 02, S-8: {name}");
+            let a = words.len();
+            for t in in_editions(&t) {
+                for list_len in [0, 1, less_one(a)].into_iter().filter(|&n| n < a) {
+                    self.gives_list(&t, list_len, 9, &[]);
+                }
+                for list_len in [a, a + 1, a + 40, LOG_MOST] {
+                    self.gives_list(&t, list_len, 0, &words);
+                }
+            }
+        }
+    }
+
+    /// Likewise, with origins, which are kept; by outputs around the byte count of the file. Then by what is no atom.
+    fn part_cases(&mut self) {
+        for (name, whole, atoms, kept, part) in parts() {
+            self.place = format!("document 02, S-8: {name}");
+            let origins: Vec<usize> = kept.iter().map(|&r| origins(&whole)[r]).collect();
+            let owned = (with_origins(&whole), with_these(&part, &origins));
+            for (whole, part) in [(whole.clone(), part.clone()), (two(&whole), two(&part)), owned] {
+                let n = part.bytes.len();
+                for &atom in atoms {
+                    for out_len in [0, 1, n - 1] {
+                        self.gives_part(&whole, atom, out_len, 12, &[]);
+                    }
+                    for out_len in [n, n + 1, n + 40, OUT_MOST] {
+                        self.gives_part(&whole, atom, out_len, 0, &part.bytes);
+                    }
+                }
+                self.strange_atoms(&whole);
+            }
+        }
+        in_editions(&old(&[0; 10])).iter().for_each(|t| self.strange_atoms(t));
+    }
+
+    /// "5 if that atom isn't below A, then 12 for a short output"
+    fn strange_atoms(&mut self, t: &Table) {
+        let a = atoms(t) as u32;
+        for atom in [a, a + 1, 512, 65_535, 65_536, 65_537, 1 << 31, u32::MAX] {
+            for out_len in [0, 9, 10, OUT_MOST] {
+                self.gives_part(t, atom, out_len, 5, &[]);
+            }
+        }
+    }
+
     /// base.bin, against both engines.
     fn base_vectors(&mut self, dir: &str) {
         let mut r = Reader::open(dir, "base.bin");
@@ -1606,6 +2011,33 @@ impl Bench {
         r.end();
     }
 
+    /// parts.bin, against both engines.
+    fn list_vectors(&mut self, dir: &str) {
+        let mut r = Reader::open(dir, "parts.bin");
+        while r.at < r.bytes.len() {
+            self.place = r.place();
+            let bytes = r.field();
+            let [edition, list_len, refused] = [(); 3].map(|_| r.number());
+            let words: Vec<usize> = r.words().into_iter().map(usize::from).collect();
+            self.gives_list(&Table { edition, bytes }, list_len as usize, refused, &words);
+            r.record += 1;
+        }
+        r.end();
+    }
+
+    /// part-tables.bin, against both engines.
+    fn part_vectors(&mut self, dir: &str) {
+        let mut r = Reader::open(dir, "part-tables.bin");
+        while r.at < r.bytes.len() {
+            self.place = r.place();
+            let bytes = r.field();
+            let [edition, atom, out_len, refused] = [(); 4].map(|_| r.number());
+            self.gives_part(&Table { edition, bytes }, atom, out_len as usize, refused, &r.field());
+            r.record += 1;
+        }
+        r.end();
+    }
+
     /// sheets-S6.bin, against both engines.
     fn sheet_vectors(&mut self, dir: &str) {
         let mut r = Reader::open(dir, "sheets-S6.bin");
@@ -1634,6 +2066,10 @@ impl Bench {
             counted("joins", self.joins, 50_000),
             counted("house rules that S-7 is about", self.claimed, 20_000),
             counted("house rules that S-7 is about, a tour's rule against it firing", self.contested, 5_000),
+            counted("calls for a list of parts", self.lists, 100_000),
+            counted("calls for a part", self.parts, 100_000),
+            counted("tables of parts accepted", self.accepted, 40_000),
+            counted("parts that have the tags of the whole", self.tagged_alike, 10_000),
         ];
         list.extend(VERDICTS.iter().zip(self.verdicts).map(|(word, came)| counted(word, came, 2_000)));
         list.extend(old.list("old layout: ", 10_000));
@@ -1644,6 +2080,8 @@ impl Bench {
             counted("no edition: standings refused 1:", none.not_stood[1], 1_000),
             counted("no edition: conversions refused 1:", none.not_converted[1], 1_000),
             counted("no edition: joins refused 1:", none.joins.of_house[1], 1_000),
+            counted("no edition: lists of parts refused 1:", none.parts.not_listed[1], 1_000),
+            counted("no edition: parts refused 1:", none.parts.not_parted[1], 1_000),
         ]);
         list.iter().for_each(|(what, came, _)| println!("{what} {came}"));
         println!("mismatches 0");
@@ -1993,6 +2431,98 @@ fn refused_joins() -> Vec<(&'static str, Table, Table, u32)> {
     ]
 }
 
+/// Parts of the atoms 0 and 1, of 2 and 3, and of 4 alone; pairs within the first two and across.
+fn three_parts() -> Table {
+    let rules: &[(usize, usize, &[usize])] = &[(1, 2, &[0]), (0, 7, &[4]), (2, 3, &[]), (1, 6, &[])];
+    table(5, &[0, 3, 5, 6, 8], rules, &[(0, 1), (0, 2), (1, 3), (3, 2)])
+}
+
+/// A chain over all atoms in this order, each resting on the one before it; perhaps without one of the rules.
+fn chained(order: &[usize], missing: Option<usize>) -> Table {
+    let mut d = Draft { a: order.len(), ..Draft::default() };
+    for (i, w) in order.windows(2).enumerate().filter(|&(i, _)| missing != Some(i)) {
+        d.rule(1, 2 * w[1] + i % 2, &[2 * w[0] + i / 2 % 2]);
+    }
+    d.table(OLD)
+}
+
+/// Orders of all atoms.
+fn orders() -> Vec<(&'static str, Vec<usize>)> {
+    let evens = (0..LIMITS[0]).step_by(2);
+    vec![
+        ("upwards", (0..LIMITS[0]).collect()),
+        ("downwards", (0..LIMITS[0]).rev().collect()),
+        ("the even ones downwards and the odd ones upwards", evens.clone().rev().chain(evens.clone().map(|a| a + 1)).collect()),
+        ("from both ends", evens.map(|a| a / 2).flat_map(|a| [a, LIMITS[0] - 1 - a]).collect()),
+        ("by steps of 211", (0..LIMITS[0]).map(|i| 211 * i % LIMITS[0]).collect()),
+    ]
+}
+
+/// Words of a chain whose first part ends before the atom `end`.
+fn two_chains(end: usize) -> Vec<usize> {
+    (0..LIMITS[0]).map(|a| if a < end { 0 } else { end }).collect()
+}
+
+/// What it is, the table in the old layout, and the list of its parts.
+type Listed = (&'static str, Table, Vec<usize>);
+
+fn lists() -> Vec<Listed> {
+    let rules = |a: usize, rules: &[(usize, usize, &[usize])]| table(a, &[], rules, &[]);
+    let orders = orders();
+    let (up, down) = (&orders[0].1, &orders[1].1);
+    let mut lists = vec![
+        ("no atoms", old(&[0; 10]), vec![]),
+        ("three atoms and no rules", rules(3, &[]), vec![0, 1, 2]),
+        ("512 atoms and no rules", old(&tables::sized(0, 512)), (0..512).collect()),
+        ("case 1", case_1(), vec![0, 0]),
+        ("a rule from a literal to itself", itself(), vec![0]),
+        ("the platypus", platypus(), vec![0; 5]),
+        ("three parts", three_parts(), vec![0, 0, 2, 2, 4]),
+        ("a rule without antecedents", rules(3, &[(1, 2, &[])]), vec![0, 1, 2]),
+        ("a fact of each atom", table(3, &[0, 2, 4], &[], &[]), vec![0, 1, 2]),
+        ("a pair of rules about two atoms", table(2, &[], &[(1, 0, &[]), (1, 2, &[])], &[(0, 1)]), vec![0, 1]),
+        ("a defeater", rules(3, &[(2, 4, &[2])]), vec![0, 1, 1]),
+        ("complements", rules(3, &[(1, 5, &[3])]), vec![0, 1, 1]),
+        ("the last of three antecedents", rules(6, &[(1, 2, &[6, 8, 11])]), vec![0, 1, 2, 1, 1, 1]),
+        ("antecedents alone below the head", rules(4, &[(1, 6, &[2, 4])]), vec![0, 1, 1, 1]),
+        ("two rules with one head", rules(4, &[(1, 6, &[2]), (1, 7, &[4])]), vec![0, 1, 1, 1]),
+        ("two rules with one antecedent", rules(4, &[(1, 4, &[3]), (1, 6, &[2])]), vec![0, 1, 1, 1]),
+        ("three rules, the one between last", rules(5, &[(1, 2, &[0]), (1, 6, &[4]), (1, 5, &[3])]), vec![0, 0, 0, 0, 4]),
+        ("a star of antecedents", rules(7, &[(0, 8, &[4, 6, 10, 12])]), vec![0, 1, 2, 2, 2, 2, 2]),
+        ("a star of heads", rules(6, &[(1, 6, &[10]), (1, 4, &[10]), (2, 9, &[10]), (0, 2, &[11])]), vec![0, 1, 1, 1, 1, 1]),
+        ("a circle of rules", rules(4, &[(1, 4, &[2]), (1, 6, &[4]), (1, 2, &[6])]), vec![0, 1, 1, 1]),
+        ("a chain upwards, parted before the last atom", chained(up, Some(510)), two_chains(511)),
+        ("a chain upwards, parted in the middle", chained(up, Some(255)), two_chains(256)),
+        ("a chain downwards, parted in the middle", chained(down, Some(255)), two_chains(256)),
+        ("a chain downwards, parted after the first atom", chained(down, Some(0)), two_chains(511)),
+    ];
+    lists.extend(orders.iter().map(|(name, order)| (*name, chained(order, None), vec![0; 512])));
+    lists
+}
+
+/// What it is, the table in the old layout, the atoms of a part, the rules that it has, and its table.
+type Parted = (&'static str, Table, &'static [u32], Vec<usize>, Table);
+
+fn parts() -> Vec<Parted> {
+    let (whole, one, alone) = (three_parts(), case_1(), old(&tables::sized(0, 512)));
+    let first = table(5, &[0, 3], &[(1, 2, &[0]), (2, 3, &[])], &[(0, 1)]);
+    let second = table(5, &[5, 6], &[(0, 7, &[4]), (1, 6, &[])], &[(0, 1)]);
+    let (up, down) = (chained(&orders()[0].1, None), chained(&orders()[1].1, None));
+    let apart = table(2, &[], &[(1, 0, &[]), (1, 2, &[]), (1, 1, &[]), (1, 3, &[])], &[(0, 2), (0, 3), (1, 2), (1, 3), (3, 2)]);
+    let pair = |head: usize| table(2, &[], &[(1, head, &[]), (1, head + 1, &[])], &[(0, 1)]);
+    vec![
+        ("case 1 is one part", one.clone(), &[0, 1], vec![0, 1], one),
+        ("the first of three parts", whole.clone(), &[0, 1], vec![0, 2], first),
+        ("the second of three parts", whole.clone(), &[2, 3], vec![1, 3], second),
+        ("an atom that no rule names", whole, &[4], vec![], table(5, &[8], &[], &[])),
+        ("pairs across parts, atom 0", apart.clone(), &[0], vec![0, 2], pair(0)),
+        ("pairs across parts, atom 1", apart, &[1], vec![1, 3], pair(2)),
+        ("512 atoms and no rules", alone.clone(), &[0, 1, 511], vec![], alone),
+        ("a chain upwards", up.clone(), &[0, 1, 255, 511], (0..511).collect(), up),
+        ("a chain downwards", down.clone(), &[0, 1, 255, 511], (0..511).collect(), down),
+    ]
+}
+
 /// What it is, the table and its sheet.
 fn sheets() -> Vec<(&'static str, Table, &'static str)> {
     vec![
@@ -2168,6 +2698,8 @@ fn main() {
         bench.short_log_vectors(&dir);
         bench.edition_vectors(&dir);
         bench.join_vectors(&dir);
+        bench.list_vectors(&dir);
+        bench.part_vectors(&dir);
     }
     bench.last = bench.calls + calls;
     bench.cases();

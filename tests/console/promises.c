@@ -41,6 +41,17 @@ static const uint8_t TWICE_ORIGINS_BYTES[55] = {2, 2, 0, 1, 0, 4, 0, 2, 0, 4, 0,
                                                 0, 0, 13, 0, 5, 0, 13, 0, 5, 0, 0, 0, 2, 0, 0, 0, 0, 0, 1, 0, 2, 0,
                                                 0, 0, 2, 0, 3, 0, 2, 0, 3, 0, 0, 0, 0, 0, 1, 0, 3, 0, 2, 0, 3, 0};
 
+/* Three parts, atoms 0 and 1, 2 and 3, and 4, with pairs within and across, and the tables of the first and the last; in edition two with the
+ * origins house, tour, console and none. */
+static const uint8_t PARTS_BYTES[71] = {2, 5, 0, 5, 0, 4, 0, 2, 0, 4, 0,
+                                        0, 0, 0, 0, 0, 0, 0, 0, 0, 0, 5, 0, 8, 0, 14, 0, 1, 0, 0, 0, 1, 0, 0, 0, 0, 0, 1, 0, 3, 0,
+                                        0, 0, 3, 0, 5, 0, 6, 0, 8, 0, 2, 0, 7, 0, 3, 0, 6, 0, 0, 0, 4, 0, 1, 0, 2, 0, 3, 0, 2, 0};
+static const uint8_t FIRST_PART_BYTES[35] = {2, 5, 0, 2, 0, 2, 0, 1, 0, 1, 0,
+                                             0, 0, 0, 0, 5, 0, 14, 0, 0, 0, 0, 0,
+                                             0, 0, 3, 0, 2, 0, 3, 0, 0, 0, 1, 0};
+static const uint8_t LAST_PART_BYTES[15] = {2, 5, 0, 1, 0, 0, 0, 0, 0, 0, 0, 0, 0, 8, 0};
+static const uint16_t PARTS_LIST[5] = {0, 0, 2, 2, 4}, ONE_PART[FLY_MAX_ATOMS];
+
 /* as many atoms as case 1 has, and as many as there can be, and nothing else */
 static const uint8_t TWO_ATOMS_BYTES[11] = {2, 2, 0, 0, 0, 0, 0, 0, 0, 0, 0}, MOST_ATOMS_BYTES[11] = {2, 0, 2, 0, 0, 0, 0, 0, 0, 0, 0};
 
@@ -68,6 +79,10 @@ static const table TWO_ATOMS = {"two atoms", FLY_OLD, TWO_ATOMS_BYTES + 1, 10, N
 static const table TWO_ATOMS_TWO = {"two atoms in edition two", FLY_TWO, TWO_ATOMS_BYTES, 11, NULL, NULL};
 static const table MOST_ATOMS = {"512 atoms", FLY_OLD, MOST_ATOMS_BYTES + 1, 10, NULL, NULL};
 static const table MOST_ATOMS_TWO = {"512 atoms in edition two", FLY_TWO, MOST_ATOMS_BYTES, 11, NULL, NULL};
+
+static const table PARTS = {"three parts", FLY_TWO, PARTS_BYTES, sizeof PARTS_BYTES, NULL, NULL};
+static const table FIRST_PART = {"the first part", FLY_TWO, FIRST_PART_BYTES, sizeof FIRST_PART_BYTES, NULL, NULL};
+static const table LAST_PART = {"the last part", FLY_TWO, LAST_PART_BYTES, sizeof LAST_PART_BYTES, NULL, NULL};
 
 /* ---- the table at its limits, which tests/cases/write.py has too ---- */
 
@@ -158,6 +173,42 @@ static void make_couple(void) {
         joined_bytes[10 + 2 * (JOINED_RULES + k)] = (uint8_t)(k / TOUR_RULES);
         joined_bytes[10 + 2 * (2 * JOINED_RULES + ADDED + k)] = (uint8_t)(HOUSE_RULES + k % TOUR_RULES);
     }
+}
+
+/* A rule from each atom to the next, or to the one before; then rule k also rests on the complement of its atom. And in the table at its limits,
+ * whose rules name atoms 0 to 3, each atom's part; the part of the last atom, which has two facts. */
+enum { STEPS = ATOMS - 1, CHAIN_PLACES = 3 * STEPS };
+static uint8_t up_bytes[10 + 4 * CHAIN_PLACES], down_bytes[10 + 4 * CHAIN_PLACES];
+static uint16_t limits_list[ATOMS];
+static const table UP = {"a chain upwards", FLY_OLD, up_bytes, sizeof up_bytes, NULL, NULL};
+static const table DOWN = {"a chain downwards", FLY_OLD, down_bytes, sizeof down_bytes, NULL, NULL};
+static const uint8_t ALONE_BYTES[19] = {2, 0, 2, 2, 0, 0, 0, 0, 0, 0, 0, 0, 0, 0, 0, 0xfe, 3, 0xff, 3};
+static const table ALONE = {"the last atom's part", FLY_OLD, ALONE_BYTES + 1, 18, NULL, NULL};
+static const table ALONE_TWO = {"the last atom's part in edition two", FLY_TWO, ALONE_BYTES, 19, NULL, NULL};
+
+static void put_in(uint8_t *bytes, size_t i, size_t word) {
+    bytes[2 * i] = (uint8_t)word;
+    bytes[2 * i + 1] = (uint8_t)(word >> 8);
+}
+
+static void make_chain(uint8_t *bytes, int down) {
+    const size_t sizes[5] = {ATOMS, 0, STEPS, 2 * STEPS, 0};
+    for (size_t k = 0; k < 5; k++) put_in(bytes, k, sizes[k]);
+    for (size_t k = 0; k < STEPS; k++) {
+        size_t from = down ? STEPS - k : k, to = down ? from - 1 : from + 1;
+        put_in(bytes, 5 + k, 1);
+        put_in(bytes, 5 + CHAIN_PLACES + k, 2 * to);
+        for (size_t i = 0; i < 2; i++) {
+            put_in(bytes, 5 + STEPS + 2 * k + i, k);
+            put_in(bytes, 5 + CHAIN_PLACES + STEPS + 2 * k + i, 2 * from + i);
+        }
+    }
+}
+
+static void make_parts(void) {
+    make_chain(up_bytes, 0);
+    make_chain(down_bytes, 1);
+    for (size_t a = 4; a < ATOMS; a++) limits_list[a] = (uint16_t)a;
 }
 
 /* Every literal is a fact: the opening writes +Δ of each, and working that line writes +∂. */
@@ -308,7 +359,36 @@ static void joins(const table *house, const table *tour, size_t out_len, uint32_
     table_left(call, tour_lent, tour);
 }
 
-/* The table's refusal comes before that of a rule number, and of what is lent. */
+/* The list's first words are these, none with a refusal, and the rest the noise. */
+static void lists(const table *t, size_t list_len, uint32_t refused, const uint16_t *words, size_t atoms) {
+    char call[128];
+    snprintf(call, sizeof call, "the parts of %s (list %zu)", t->name, list_len);
+    uint8_t *bytes = lend_table(t);
+    uint16_t *list = guarded(2 * list_len);
+    size_t n = refused ? 0 : atoms;
+    for (size_t i = 0; i < list_len; i++) list[i] = noise(i);
+    same(call, "refused", NUMBER, fly_parts(bytes, t->n, t->edition, list, list_len), refused);
+    for (size_t i = 0; i < list_len; i++) same(call, "list word", i, list[i], i < n ? words[i] : noise(i));
+    give_back(list, 2 * list_len);
+    table_left(call, bytes, t);
+}
+
+/* The output's first bytes are the part's file, likewise. */
+static void parts(const table *t, uint32_t atom, size_t out_len, uint32_t refused, const table *file) {
+    char call[128];
+    snprintf(call, sizeof call, "the part of atom %u of %s (output %zu)", (unsigned)atom, t->name, out_len);
+    uint8_t *bytes = lend_table(t), *out = guarded(out_len);
+    size_t n = refused ? 0 : file->n;
+    for (size_t i = 0; i < out_len; i++) out[i] = (uint8_t)noise(i);
+    fly_written w = fly_part(bytes, t->n, t->edition, atom, out, out_len);
+    same(call, "refused", NUMBER, w.refused, refused);
+    same(call, "bytes", NUMBER, w.bytes, n);
+    for (size_t i = 0; i < out_len; i++) same(call, "output byte", i, out[i], i < n ? file->bytes[i] : (uint8_t)noise(i));
+    give_back(out, out_len);
+    table_left(call, bytes, t);
+}
+
+/* The table's refusal comes before that of a rule number, of an atom, and of what is lent. */
 static void refuses(const table *t, uint32_t number) {
     static const uint32_t NUMBERS[4] = {0, 1, 65536, UINT32_MAX};
     runs(t, 19, FLY_LOG, FLY_SCRATCH + MORE, (fly_answer){number, 0, 0, 0, 0});
@@ -318,6 +398,12 @@ static void refuses(const table *t, uint32_t number) {
     converts(t, FLY_MAX_TWO, number, NULL);
     joins(t, t, 0, number, NULL);
     joins(t, t, FLY_MAX_TWO, number, NULL);
+    lists(t, 0, number, NULL, 0);
+    lists(t, FLY_MAX_ATOMS + MORE, number, NULL, 0);
+    for (size_t i = 0; i < 4; i++) {
+        parts(t, NUMBERS[i], 0, number, NULL);
+        parts(t, NUMBERS[i], FLY_MAX_TWO, number, NULL);
+    }
 }
 
 static void prints(const table *t) {
@@ -483,6 +569,55 @@ static void couples(void) {
     joins_in_order();
 }
 
+/* ---- parts ---- */
+
+/* A word of list less than A, as many, and more. */
+static void lists_by_lengths(const table *t, const uint16_t *words, size_t atoms) {
+    lists(t, 0, FLY_SHORT_LOG, NULL, 0);
+    lists(t, atoms - 1, FLY_SHORT_LOG, NULL, 0);
+    lists(t, atoms, 0, words, atoms);
+    lists(t, atoms + MORE, 0, words, atoms);
+}
+
+/* A byte of output less than the part's file, as much, and more. */
+static void parts_by_lengths(const table *t, uint32_t atom, const table *part) {
+    parts(t, atom, 0, FLY_SHORT_OUTPUT, NULL);
+    parts(t, atom, part->n - 1, FLY_SHORT_OUTPUT, NULL);
+    parts(t, atom, part->n, 0, part);
+    parts(t, atom, part->n + MORE, 0, part);
+}
+
+/* An atom that is not below A comes before a short output. */
+static void no_part(const table *t, uint32_t atoms) {
+    const uint32_t numbers[4] = {atoms, atoms + 1, 65536, UINT32_MAX};
+    for (size_t i = 0; i < 4; i++) {
+        parts(t, numbers[i], 0, FLY_OUT_OF_RANGE, NULL);
+        parts(t, numbers[i], FLY_MAX_TWO, FLY_OUT_OF_RANGE, NULL);
+    }
+}
+
+static void bar_by_bar(void) {
+    lists_by_lengths(&CASE_1, ONE_PART, 2);
+    lists_by_lengths(&ORIGINS, ONE_PART, 2);
+    lists_by_lengths(&PARTS, PARTS_LIST, 5);
+    lists_by_lengths(&UP, ONE_PART, ATOMS);
+    lists_by_lengths(&DOWN, ONE_PART, ATOMS);
+    lists_by_lengths(&LIMITS, limits_list, ATOMS);
+    lists_by_lengths(&LIMITS_ORIGINS, limits_list, ATOMS);
+    parts_by_lengths(&CASE_1, 1, &CASE_1);
+    parts_by_lengths(&ORIGINS, 0, &ORIGINS);
+    parts_by_lengths(&PARTS, 0, &FIRST_PART);
+    parts_by_lengths(&PARTS, 1, &FIRST_PART);
+    parts_by_lengths(&PARTS, 4, &LAST_PART);
+    parts_by_lengths(&UP, ATOMS - 1, &UP);
+    parts_by_lengths(&DOWN, ATOMS - 1, &DOWN);
+    parts_by_lengths(&LIMITS, ATOMS - 1, &ALONE);
+    parts_by_lengths(&LIMITS_ORIGINS, ATOMS - 1, &ALONE_TWO);
+    no_part(&CASE_1, 2);
+    no_part(&PARTS, 5);
+    no_part(&LIMITS, ATOMS);
+}
+
 /* ---- threads ---- */
 
 static void *again(void *unused) {
@@ -501,6 +636,10 @@ static void *again(void *unused) {
         joins(&CASE_1, &CASE_1, 54, 0, &TWICE);
         joins(&ORIGINS, &ORIGINS, 55 + MORE, 0, &TWICE_ORIGINS);
         joins(&CASE_1, &ITSELF, 54, FLY_ATOMS_DIFFER, NULL);
+        lists(&PARTS, 5, 0, PARTS_LIST, 5);
+        lists(&CASE_1, 1, FLY_SHORT_LOG, NULL, 0);
+        parts(&PARTS, 1, 35, 0, &FIRST_PART);
+        parts(&PARTS, 5, 35, FLY_OUT_OF_RANGE, NULL);
     }
     return unused;
 }
@@ -519,8 +658,8 @@ enum { STACK = 1 << 20 };
 
 static void *no_call(void *of) { return of; }
 
-/* A call, by its table; also the budget of a run, the rule that stands or the place in TOURS of what is joined, the words of log or bytes of
- * output, and the refusal that comes of them. */
+/* A call, by its table; also the budget of a run, the rule that stands, the place in TOURS of what is joined or the atom of a part, the words of
+ * log or list or bytes of output, and the refusal that comes of them. */
 typedef struct {
     const table *of;
     uint32_t number;
@@ -565,6 +704,20 @@ static void *join_call(void *call) {
     const one_call *c = call;
     const table *tour = TOURS[c->number];
     CHECK(fly_join(c->of->bytes, c->of->n, tour->bytes, tour->n, c->of->edition, out, c->length).refused == c->refused);
+    return call;
+}
+
+static void *parts_call(void *call) {
+    static uint16_t list[ATOMS];
+    const one_call *c = call;
+    CHECK(fly_parts(c->of->bytes, c->of->n, c->of->edition, list, c->length) == c->refused);
+    return call;
+}
+
+static void *part_call(void *call) {
+    static uint8_t out[FLY_MAX_TWO];
+    const one_call *c = call;
+    CHECK(fly_part(c->of->bytes, c->of->n, c->of->edition, c->number, out, c->length).refused == c->refused);
     return call;
 }
 
@@ -628,14 +781,32 @@ static void stack_use(void) {
                                      {&LIMITS, 5, FLY_MAX_BYTES, FLY_TOO_LARGE},
                                      {&MOST_ATOMS, 5, FLY_MAX_TWO, 0},
                                      {&MOST_ATOMS_TWO, 6, FLY_MAX_TWO, 0}};
+    static const one_call LISTS[] = {{&CASE_1, 0, 2, 0},
+                                     {&PARTS, 0, ATOMS, 0},
+                                     {&UP, 0, ATOMS, 0},
+                                     {&DOWN, 0, ATOMS, 0},
+                                     {&LIMITS, 0, ATOMS, 0},
+                                     {&LIMITS, 0, ATOMS - 1, FLY_SHORT_LOG},
+                                     {&LIMITS_ORIGINS, 0, ATOMS, 0}};
+    static const one_call PARTED[] = {{&CASE_1, 0, 30, 0},
+                                      {&PARTS, 1, 35, 0},
+                                      {&UP, 0, FLY_MAX_TWO, 0},
+                                      {&DOWN, ATOMS - 1, FLY_MAX_TWO, 0},
+                                      {&LIMITS, 0, FLY_MAX_TWO, 0},
+                                      {&LIMITS, 0, 10, FLY_SHORT_OUTPUT},
+                                      {&LIMITS, ATOMS, FLY_MAX_TWO, FLY_OUT_OF_RANGE},
+                                      {&LIMITS_ORIGINS, 3, FLY_MAX_TWO, 0}};
     size_t run = stack_of("the run", run_call, FULL, 4, FLY_RUN_STACK);
     size_t short_log = stack_of("the short-log run", run_call, SHORT_LOGS, 7, FLY_SHORT_LOG_STACK);
     size_t sheet = stack_of("the sheet", sheet_call, FULL, 2, FLY_SHEET_STACK);
     size_t standing = stack_of("the standing", stands_call, STANDINGS, 5, FLY_STANDS_STACK);
     size_t conversion = stack_of("the conversion", convert_call, CONVERSIONS, 5, FLY_CONVERT_STACK);
     size_t join = stack_of("the join", join_call, JOINS, 9, FLY_JOIN_STACK);
-    printf("stack: run %zu bytes, with a short log %zu bytes, sheet %zu bytes, standing %zu bytes, conversion %zu bytes, join %zu bytes\n",
-           run, short_log, sheet, standing, conversion, join);
+    size_t list = stack_of("the list of parts", parts_call, LISTS, 7, FLY_PARTS_STACK);
+    size_t part = stack_of("the part", part_call, PARTED, 8, FLY_PART_STACK);
+    printf("stack: run %zu bytes, with a short log %zu bytes, sheet %zu bytes, standing %zu bytes, conversion %zu bytes, join %zu bytes, "
+           "list of parts %zu bytes, part %zu bytes\n",
+           run, short_log, sheet, standing, conversion, join, list, part);
 }
 #else
 static void stack_use(void) {}
@@ -646,6 +817,7 @@ int main(void) {
     make_editions();
     make_log_and_sheet();
     make_couple();
+    make_parts();
     runs(&CASE_1, 19, FLY_LOG, FLY_SCRATCH + MORE, ALL_1);
     runs(&CASE_1, 17, 8, FLY_SCRATCH, ALL_1);
     runs(&CASE_1, 16, 8, FLY_SCRATCH, (fly_answer){0, 0, 8, 7, 16});
@@ -674,6 +846,7 @@ int main(void) {
     converts_both_ways(&CASE_1, &TWO, &ORIGINS);
     converts_both_ways(&LIMITS, &LIMITS_TWO, &LIMITS_ORIGINS);
     couples();
+    bar_by_bar();
     together();
     stack_use();
     puts("promises kept");

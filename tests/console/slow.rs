@@ -1,4 +1,4 @@
-//! A slow engine, written from document 01 and from S-1 to S-3 and S-5 to S-7 of document 02, sentence by sentence. The quoted lines are
+//! A slow engine, written from document 01 and from S-1 to S-3 and S-5 to S-8 of document 02, sentence by sentence. The quoted lines are
 //! the documents' own. What is held is a `Vec<bool>` indexed by the number of a line, and every inference rule is a direct quantification
 //! over rules and antecedents.
 
@@ -33,7 +33,7 @@ pub struct Standing {
     pub standing: u32,
 }
 
-/// What a conversion or a join answers, in the two numbers of flyrules.h. With a refusal the second is 0.
+/// What a call answers that writes a table, in the two numbers of flyrules.h. With a refusal the second is 0.
 #[repr(C)]
 #[derive(Clone, Copy, PartialEq, Eq, Debug)]
 pub struct Written {
@@ -781,6 +781,167 @@ pub fn claim(joined: &[u8], edition: u32, n: usize, lines: &[u16]) -> Claim {
         }
     }
     claim
+}
+
+/// For each rule the atoms that it names, by its head or an antecedent. A deliberate fault takes some away, or adds others as if a rule named
+/// them.
+fn named(s: &Sections) -> Vec<Vec<usize>> {
+    let atoms = |literals: Vec<usize>| -> Vec<usize> {
+        literals.into_iter().filter(|&q| !(mutant(101) && q % 2 == 1)).map(|q| q / 2).collect()
+    };
+    let mut named = vec![];
+    for (r, rule) in s.rules.iter().enumerate().filter(|(_, rule)| !(mutant(100) && rule.kind == 2)) {
+        let mut body: Vec<usize> = s.entries.iter().filter(|e| e.0 == r).map(|e| e.1).collect();
+        if mutant(102) {
+            body.truncate(1);
+        }
+        let head = (!mutant(93)).then_some(rule.head);
+        named.push(atoms(head.into_iter().chain(body).collect()));
+    }
+    if mutant(94) {
+        named.extend(s.pairs.iter().map(|&(t, w)| vec![s.rules[t].head / 2, s.rules[w].head / 2]));
+    }
+    if mutant(95) {
+        named.push(s.facts.iter().map(|f| f.1 / 2).collect());
+    }
+    named
+}
+
+/// Document 02, S-8: "Two atoms belong to one part if one rule names both, and so on through chains. The list gives each atom one word, the
+/// smallest atom of its part". At first an atom's word is itself; then each rule gives the atoms that it names the smallest of their words, over
+/// and over, until every rule names atoms of one word.
+fn words(s: &Sections) -> Vec<usize> {
+    let (named, mut words): (_, Vec<usize>) = (named(s), (0..s.a).collect());
+    loop {
+        let before = words.clone();
+        for atoms in &named {
+            let from = if mutant(97) { &before } else { &words };
+            if let Some(smallest) = atoms.iter().map(|&a| from[a]).min() {
+                atoms.iter().for_each(|&a| words[a] = words[a].min(smallest));
+            }
+        }
+        if words == before || mutant(97) {
+            break;
+        }
+    }
+    if mutant(96) {
+        words = (0..s.a).map(|a| (0..s.a).rfind(|&b| words[b] == words[a]).unwrap()).collect();
+    }
+    words
+}
+
+/// The first of these numbers that is not 0, or 0.
+fn first(order: &[u32]) -> u32 {
+    order.iter().copied().find(|&number| number != 0).unwrap_or(0)
+}
+
+/// A list of parts, whatever list is lent: what the table is refused by, or 0; its A, if it can be read; and the words, if only 9 could still
+/// refuse them.
+#[derive(Default)]
+pub struct Listing {
+    pub judged: u32,
+    pub a: usize,
+    pub words: Vec<usize>,
+}
+
+impl Listing {
+    /// 0, or the refusal with a list of this length: "a list below A words gets 9, after 1 to 7."
+    pub fn refused(&self, list_len: usize) -> u32 {
+        let needed = if mutant(105) { self.a + 1 } else { self.a };
+        let mut order = [self.judged, if list_len < needed { 9 } else { 0 }];
+        if mutant(104) {
+            order.reverse();
+        }
+        first(&order)
+    }
+
+    /// How many parts there are, and the most atoms that one of them has.
+    pub fn parts_and_most(&self) -> (usize, usize) {
+        let sizes: Vec<usize> = (0..self.a).map(|a| self.words.iter().filter(|&&w| w == a).count()).filter(|&n| n > 0).collect();
+        (sizes.len(), sizes.into_iter().max().unwrap_or(0))
+    }
+}
+
+pub fn listing(bytes: &[u8], edition: u32) -> Listing {
+    let (edition, judged) = (mistaken(edition), judge(bytes, edition));
+    let Ok(s) = sections(bytes, edition) else { return Listing { judged, ..Listing::default() } };
+    Listing { judged, a: s.a, words: if judged == 0 { words(&s) } else { vec![] } }
+}
+
+/// A part's own table, whatever output is lent: what the whole is refused by, or 0; whether the atom is not below A; of one that is the words by
+/// which the part's atoms are known, the part's file, and how many pairs it lacks of which one rule is the part's; and the whole's byte count.
+#[derive(Default)]
+pub struct Part {
+    pub judged: u32,
+    pub strange: bool,
+    pub words: Vec<usize>,
+    pub file: Vec<u8>,
+    pub cut: usize,
+    whole: usize,
+}
+
+impl Part {
+    /// The answer with an output of this length. "After 1 to 7 on the table it gets 5 if that atom isn't below A, then 12 for a short output."
+    pub fn answer(&self, out_len: usize) -> Written {
+        let needed = if mutant(109) { self.whole } else { self.file.len() };
+        let (strange, short) = (if self.strange { 5 } else { 0 }, if out_len < needed { 12 } else { 0 });
+        let mut order = [self.judged, strange, short];
+        match () {
+            // of an atom that no rule names the table has the sizes alone
+            _ if mutant(107) && self.strange && out_len < 10 => order = [self.judged, 12, 5],
+            _ if mutant(106) => order.sort(),
+            _ => (),
+        }
+        let refused = first(&order);
+        let bytes = if refused == 0 || mutant(108) && refused == 12 { self.file.len() } else { 0 };
+        Written { refused, bytes: bytes as u32 }
+    }
+}
+
+/// Document 02, S-8: "its rules keep their order, kinds and origins and are numbered anew from 0", "the table made of one part's facts, rules,
+/// entries and the pairs inside it, with A unchanged". Returns how many pairs are left out of which one rule is the part's, too.
+fn parted(s: &Sections, words: &[usize], atom: usize) -> (usize, [Vec<(usize, usize)>; 4], usize) {
+    let word = if mutant(110) { atom } else { words[atom] };
+    let of_part = |q: usize| words[q / 2] == word;
+    let body_of = |r: usize| s.entries.iter().filter(move |e| e.0 == r);
+    let is_named = |a: usize| s.rules.iter().any(|r| r.head / 2 == a) || s.entries.iter().any(|e| e.1 / 2 == a);
+    // atoms anew, which is a fault: how many of the part are below
+    let new = |q: usize| if mutant(112) { 2 * (0..q / 2).filter(|&a| words[a] == word).count() + q % 2 } else { q };
+    let keeps = |r: usize| of_part(s.rules[r].head) && !(mutant(117) && body_of(r).next().is_none());
+    let kept: Vec<usize> = (0..s.rules.len()).filter(|&r| keeps(r)).collect();
+    // "numbered anew from 0"
+    let number = |r: usize| if mutant(113) { r } else { kept.iter().take_while(|&&k| k < r).count() };
+    let facts = s.facts.iter().filter(|f| of_part(f.1) || mutant(114)).filter(|f| !(mutant(118) && !is_named(f.1 / 2)));
+    let left = |r: &Rule| r.kind + 4 * if mutant(115) { 0 } else { r.origin };
+    let entries = kept.iter().flat_map(|&r| body_of(r)).map(|&(r, q)| (number(r), new(q)));
+    let inside = |t: usize, w: usize| if mutant(116) { keeps(t) || keeps(w) } else { keeps(t) && keeps(w) };
+    let pairs = s.pairs.iter().filter(|&&(t, w)| inside(t, w)).map(|&(t, w)| (number(t), number(w)));
+    let cut = s.pairs.iter().filter(|&&(t, w)| keeps(t) != keeps(w)).count();
+    let a = if mutant(111) { words.iter().filter(|&&w| w == word).count() } else { s.a };
+    let rules = kept.iter().map(|&r| (left(&s.rules[r]), new(s.rules[r].head)));
+    (a, [facts.map(|f| (0, new(f.1))).collect(), rules.collect(), entries.collect(), pairs.collect()], cut)
+}
+
+/// Document 02, S-8: "A part's own table is written for any atom named", "and the edition stays."
+pub fn part(bytes: &[u8], edition: u32, atom: u32) -> Part {
+    let (edition, judged) = (mistaken(edition), judge(bytes, edition));
+    let Ok(s) = sections(bytes, edition) else { return Part { judged, ..Part::default() } };
+    let atom = if mutant(99) { atom % 65_536 } else { atom } as usize;
+    let (strange, whole) = (atom >= s.a, bytes.len());
+    if judged != 0 || strange {
+        return Part { judged, strange, whole, ..Part::default() };
+    }
+    let words = words(&s);
+    let (a, sections, cut) = parted(&s, &words, atom);
+    let file = file(a, &sections, if mutant(98) { OLD + TWO - edition } else { edition });
+    Part { words, file, cut, whole, ..Part::default() }
+}
+
+/// "gives that part's atoms the same tags as the whole": the first atom of the part that has other tags by the lines of the part's finished run
+/// than by those of the whole's.
+pub fn tagged_otherwise(words: &[usize], atom: usize, of_part: &[u16], of_whole: &[u16]) -> Option<usize> {
+    let (part, whole) = (held(words.len(), of_part), held(words.len(), of_whole));
+    (0..words.len()).filter(|&a| words[a] == words[atom]).find(|&a| part[8 * a..8 * a + 8] != whole[8 * a..8 * a + 8])
 }
 
 /// These lines as what is held, of a table of `a` atoms.

@@ -1,5 +1,5 @@
 //! Seeded tables for the comparison, in both editions: legal ones of many shapes, damaged ones, and bytes that were never a table;
-//! couples of a house and a tour; and logs to read.
+//! couples of a house and a tour; tables of several parts; and logs to read.
 
 use crate::slow::{OLD, TWO};
 
@@ -731,6 +731,49 @@ pub fn great_couple(r: &mut Rng, shape: usize) -> [Draft; 2] {
     };
     let tables = tables.map(|d| d.done(r));
     over_same_atoms(r, tables)
+}
+
+/// Atoms in groups that no rule goes across, so that the parts lie within them; in most tables not all of a group are one part. Pairs go
+/// anywhere.
+fn scattered(r: &mut Rng, a: usize, n: usize, longest: usize) -> Draft {
+    let (mut d, weights) = (Draft::atoms(a), kinds(r));
+    let (facts, groups) = (r.pick(&[1, 2, 4, 6]), r.within(1, a));
+    let group: Vec<usize> = (0..a).map(|_| r.below(groups)).collect();
+    for q in 0..2 * a {
+        if r.chance(facts, 12) {
+            d.fact(q);
+        }
+    }
+    for _ in 0..n {
+        let first = r.below(a);
+        let atoms: Vec<usize> = (0..a).filter(|&b| group[b] == group[first]).collect();
+        let mut literal = || 2 * r.pick(&atoms) + r.below(2);
+        let head = literal();
+        let body: Vec<usize> = (0..longest).map(|_| literal()).collect();
+        let (k, length) = (kind(r, weights), r.below(longest + 1));
+        d.rule(k, head, &body[..length]);
+    }
+    d
+}
+
+/// A small legal table of several parts, as a rule, with pairs within them and across.
+pub fn small_scattered(r: &mut Rng) -> Draft {
+    let (a, longest) = (r.within(2, 14), r.within(1, 3));
+    let n = r.below(2 * a);
+    let mut d = scattered(r, a, n, longest);
+    let (x, y) = (r.pick(&[2, 6, 9]), r.pick(&[0, 1, 3]));
+    d.all_pairs(r, x, y);
+    d.done(r)
+}
+
+/// Likewise, of many atoms: some dozens, or up to the limit.
+pub fn large_scattered(r: &mut Rng, most: usize) -> Draft {
+    let a = r.within(most / 4, most);
+    let (n, longest) = (r.within(a / 4, 2 * a), r.within(1, 2));
+    let mut d = scattered(r, a, n, longest);
+    let count = r.below(2 * n);
+    d.some_pairs(r, count, 6);
+    d.done(r)
 }
 
 pub const FAULTS: usize = 14;

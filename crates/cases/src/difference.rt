@@ -38,13 +38,15 @@ pub const STRONGER: usize = 16;
 
 pub const WEAKER: usize = 17;
 
-const CAME: usize = 18;
+pub const LIST: usize = 18;
 
-const WANTED: usize = 19;
+const CAME: usize = 19;
+
+const WANTED: usize = 20;
 
 // 9 bytes each.
-const NAMES: [u8; 180] =
-    *b"   judged  refused finished    lines   worked    spent   length      log  scratch     byte     fact     kind   origin     head     rule  literal stronger   weaker     came   wanted";
+const NAMES: [u8; 189] =
+    *b"   judged  refused finished    lines   worked    spent   length      log  scratch     byte     fact     kind   origin     head     rule  literal stronger   weaker     list     came   wanted";
 
 // The place is the index of a word or a byte, 0 for a number.
 pub struct Difference {
@@ -63,7 +65,7 @@ pub fn print_number(text: &[u8], n: usize) {
 
 fn print_named(name: usize, n: usize) {
     let names = NAMES;
-    let from = 9 * (name % 20);
+    let from = 9 * (name % 21);
     let to = from + 9;
     print_number(&names[from..to], n);
 }

@@ -4,6 +4,7 @@
 mod difference;
 mod joins;
 mod noise;
+mod parted;
 mod readers;
 mod records;
 mod runs;
@@ -26,6 +27,8 @@ pub enum Layout {
     Sheets,
     Conversions,
     Joins,
+    Lists,
+    Parts,
 }
 
 // Whether a record, whose table, or house, has n bytes, gives what it must.
@@ -41,6 +44,8 @@ fn is_same(file: &[u8], layout: Layout, fd: i32, record: u32, n: u32) -> bool {
         Layout::Sheets => records::sheet_differs(fd, table),
         Layout::Conversions => records::conversion_differs(fd, record, table),
         Layout::Joins => joins::join_differs(fd, record, table),
+        Layout::Lists => parted::list_differs(fd, record, table),
+        Layout::Parts => parted::part_differs(fd, record, table),
     };
     d.is_none(file, record)
 }
@@ -85,4 +90,8 @@ fn main() {
     try_file(b"editions.bin", Layout::Conversions, true);
     try_file(b"conversions.bin", Layout::Conversions, true);
     try_file(b"joins.bin", Layout::Joins, true);
+    try_file(b"parts.bin", Layout::Lists, true);
+    try_file(b"lists.bin", Layout::Lists, true);
+    try_file(b"part-tables.bin", Layout::Parts, true);
+    try_file(b"parted.bin", Layout::Parts, true);
 }

@@ -56,7 +56,7 @@ fn compare_numbers(judged: u32, came: Numbers, want: Run) -> Difference {
         .or(SPENT, 0, came.spent, want.spent)
 }
 
-// What a word must be: the next word of the file in the log, 0 in the scratch, and noise past the first n words.
+// What a word must be: the next word of the file in a log or a list, 0 in the scratch, and noise past the first n words.
 fn wanted(what: usize, fd: i32, n: u32, seed: u32, i: usize) -> u16 {
     if n as usize <= i {
         return noise(seed, i);
@@ -71,7 +71,7 @@ fn wide(word: u16) -> u32 {
     word as u32
 }
 
-fn compare_words(
+pub fn compare_words(
     d: Difference,
     what: usize,
     words: &[u16; 65536],

@@ -18,14 +18,9 @@ use Rattle.standing.specs.declared.answer.StandingNumbers.{StandingNumbers}
 use Rattle.standing.specs.declared.answer.StandingAnswer.the-variants as standing
 use Rattle.standing.specs.Answers as standing-answers
 use Rattle.standing.specs.Answers.{standingOf}
-use Rattle.writing.specs.declared.answer.WrittenNumbers.{WrittenNumbers}
-use Rattle.writing.specs.declared.answer.Written.the-variants as written
-use Rattle.writing.specs.Answers as written-answers
-use Rattle.convert.specs.Conversion.{Converted}
-use Rattle.join.specs.Calls.{Joined}
 use Rattle.console.specs.declared.told.Told.{Told}
 use Rattle.console.specs.declared.told.Told.the-variants.{Known, Unknown}
-use Rattle.console.specs.Told.{toldBy, RanTold, standingTold, ConvertedTold, JoinedTold}
+use Rattle.console.specs.Told.{toldBy, RanTold, standingTold, WritesTold}
 use Rattle.console.proofs.told.Told.{the-type}
 
 -- the number of an edition tells it, and every other number none
@@ -59,16 +54,6 @@ module _ (t : Told) (n : ℕ) (told : t ≡ toldBy n) (b : List ℕ) where
     unfolding standingTold
     stands-known r log m k f g = f ∙ g ∙ ap (λ z. standingTold z b r log) (sym known ∙ told)
 
-    pub converted-known : (out out′ : List ℕ) (m k : WrittenNumbers) → k ≡ m → Converted e b out out′ m → ConvertedTold (toldBy n) b out out′ k
-    unfolding ConvertedTold
-    converted-known out out′ m k f w =
-        subst (λ z. ConvertedTold z b out out′ k) (sym known ∙ told) (subst (Converted e b out out′) (sym f) w)
-
-    pub joined-known : (tour out out′ : List ℕ) (m k : WrittenNumbers) → k ≡ m → Joined e b tour out out′ m → JoinedTold (toldBy n) b tour out out′ k
-    unfolding JoinedTold
-    joined-known tour out out′ m k f w =
-        subst (λ z. JoinedTold z b tour out out′ k) (sym known ∙ told) (subst (Joined e b tour out out′) (sym f) w)
-
   module _ (tag : Declared.tagOf the-type t ≡ 1) where
     none : Unknown ≡ toldBy n
     none = sym (found-unknown t tag) ∙ told
@@ -81,10 +66,12 @@ module _ (t : Told) (n : ℕ) (told : t ≡ toldBy n) (b : List ℕ) where
     unfolding standingTold standing-answers.numbersOf
     stands-unknown r log k f = f ∙ ap (λ z. standingTold z b r log) none
 
-    pub converted-unknown : (out : List ℕ) (k : WrittenNumbers) → k ≡ written-answers.numbersOf (written.Refused Truncated) → ConvertedTold (toldBy n) b out out k
-    unfolding ConvertedTold written-answers.numbersOf
-    converted-unknown out k f = subst (λ z. ConvertedTold z b out out k) none (f, refl)
+-- a call that writes into one buffer
+module _ {A : Type 0} (t : Told) (n : ℕ) (told : t ≡ toldBy n) (handed : Edition → List ℕ → A → Type 0) (refused : A) (out : List ℕ) where
+  pub written-known : (e : Edition) (out′ : List ℕ) (m k : A) → t ≡ Known e → k ≡ m → handed e out′ m → WritesTold (toldBy n) handed refused out out′ k
+  unfolding WritesTold
+  written-known e out′ m k known f w = subst (λ z. WritesTold z handed refused out out′ k) (sym known ∙ told) (subst (handed e out′) (sym f) w)
 
-    pub joined-unknown : (tour out : List ℕ) (k : WrittenNumbers) → k ≡ written-answers.numbersOf (written.Refused Truncated) → JoinedTold (toldBy n) b tour out out k
-    unfolding JoinedTold written-answers.numbersOf
-    joined-unknown tour out k f = subst (λ z. JoinedTold z b tour out out k) none (f, refl)
+  pub written-unknown : (k : A) → Declared.tagOf the-type t ≡ 1 → k ≡ refused → WritesTold (toldBy n) handed refused out out k
+  unfolding WritesTold
+  written-unknown k tag f = subst (λ z. WritesTold z handed refused out out k) (sym (found-unknown t tag) ∙ told) (f, refl)

@@ -3,6 +3,7 @@
 use Prim.Native.Nat.{ℕ, zero, suc}
 use mathlib.Core.Path.{_≡_}
 use mathlib.Core.List.{List}
+use Rattle.table.specs.declared.edition.Edition.{Edition}
 use Rattle.table.specs.declared.edition.Edition.the-variants.{Old, Two}
 use Rattle.table.specs.declared.judge.Refusal.the-variants.{Truncated}
 use Rattle.table.specs.Format.{theoryOf}
@@ -17,6 +18,7 @@ use Rattle.writing.specs.declared.answer.WrittenNumbers.{WrittenNumbers}
 use Rattle.writing.specs.Answers as written
 use Rattle.convert.specs.Conversion.{Converted}
 use Rattle.join.specs.Calls.{Joined}
+use Rattle.parts.specs.Calls.{Listed, Parted}
 use Rattle.console.specs.declared.told.Told.{Told}
 use Rattle.console.specs.declared.told.Told.the-variants.{Known, Unknown}
 
@@ -37,12 +39,20 @@ unfoldable pub standingTold : Told → List ℕ → ℕ → List ℕ → Standin
 standingTold (Known e) b r log = standingOf e b r log
 standingTold Unknown b r log = standing.refusalNumbers (numberOf Truncated)
 
--- a conversion
-unfoldable pub ConvertedTold : Told → List ℕ → List ℕ → List ℕ → WrittenNumbers → Type 0
-ConvertedTold (Known e) b out out′ n = Converted e b out out′ n
-ConvertedTold Unknown b out out′ n = (n ≡ written.refusalNumbers (numberOf Truncated)) × (out′ ≡ out)
+-- a call that answers with a number or two and writes into one buffer, by what it hands over in each edition
+unfoldable pub WritesTold : {A : Type 0} → Told → (Edition → List ℕ → A → Type 0) → A → List ℕ → List ℕ → A → Type 0
+WritesTold (Known e) handed refused out out′ n = handed e out′ n
+WritesTold Unknown handed refused out out′ n = (n ≡ refused) × (out′ ≡ out)
 
--- a join
-unfoldable pub JoinedTold : Told → List ℕ → List ℕ → List ℕ → List ℕ → WrittenNumbers → Type 0
-JoinedTold (Known e) house tour out out′ n = Joined e house tour out out′ n
-JoinedTold Unknown house tour out out′ n = (n ≡ written.refusalNumbers (numberOf Truncated)) × (out′ ≡ out)
+-- a conversion, a join, a part's own table, the list of the parts
+abbrev pub ConvertedTold : Told → List ℕ → List ℕ → List ℕ → WrittenNumbers → Type 0
+ConvertedTold t b out = WritesTold t (λ e. Converted e b out) (written.refusalNumbers (numberOf Truncated)) out
+
+abbrev pub JoinedTold : Told → List ℕ → List ℕ → List ℕ → List ℕ → WrittenNumbers → Type 0
+JoinedTold t house tour out = WritesTold t (λ e. Joined e house tour out) (written.refusalNumbers (numberOf Truncated)) out
+
+abbrev pub PartedTold : Told → List ℕ → ℕ → List ℕ → List ℕ → WrittenNumbers → Type 0
+PartedTold t b atom out = WritesTold t (λ e. Parted e b atom out) (written.refusalNumbers (numberOf Truncated)) out
+
+abbrev pub ListedTold : Told → List ℕ → List ℕ → List ℕ → ℕ → Type 0
+ListedTold t b list = WritesTold t (λ e. Listed e b list) (numberOf Truncated) list

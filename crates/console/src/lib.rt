@@ -7,12 +7,15 @@ ghost use Rattle.table.specs.declared.judge.Refusal.the-variants.{Truncated};
 ghost use Rattle.writing.specs.declared.answer.Written.the-variants.{Refused};
 ghost use Rattle.writing.specs.Answers.{numbersOf};
 ghost use Rattle.report.specs.Sheet.{Printed};
-ghost use Rattle.console.specs.Told.{toldBy, RanTold, standingTold, ConvertedTold, JoinedTold};
+ghost use Rattle.console.specs.Told.{toldBy, RanTold, standingTold, ConvertedTold, JoinedTold, PartedTold, ListedTold};
 use convert::convert::convert;
 use engine::answer::Answer;
 use engine::answer::Numbers;
 use engine::run::run;
 use join::join::join;
+use parts::answer::Listing;
+use parts::list::parts;
+use parts::part::part;
 use report::sheet::sheet_of;
 use standing::answer::StandingAnswer;
 use standing::answer::StandingNumbers;
@@ -87,6 +90,26 @@ pub extern "C" fn fly_join(
 {
     match told_by(edition) {
         Told::Known(e) => join(house, tour, e, out).numbers(),
+        Told::Unknown => not_written(),
+    }
+}
+
+#[no_mangle]
+pub extern "C" fn fly_parts(table: &[u8], edition: u32, list: &mut [u16]) -> u32
+    ensures { λ r. ⌜ ListedTold (toldBy edition) (now (table .entry)) (now (list .entry)) (now (list .exit)) r ⌝ }
+{
+    match told_by(edition) {
+        Told::Known(e) => parts(table, e, list).number(),
+        Told::Unknown => Listing::Refused(Refusal::Truncated).number(),
+    }
+}
+
+#[no_mangle]
+pub extern "C" fn fly_part(table: &[u8], edition: u32, atom: u32, out: &mut [u8]) -> WrittenNumbers
+    ensures { λ r. ⌜ PartedTold (toldBy edition) (now (table .entry)) atom (now (out .entry)) (now (out .exit)) r ⌝ }
+{
+    match told_by(edition) {
+        Told::Known(e) => part(table, e, atom, out).numbers(),
         Told::Unknown => not_written(),
     }
 }

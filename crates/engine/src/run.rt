@@ -2,8 +2,7 @@
 // layout, here and in every other file of this crate: editions end in `run`.
 ghost use Prim.Native.Nat.{_+_, _*_, _≤_};
 ghost use mathlib.Core.Path.{_≡_};
-ghost use mathlib.Core.List.{_++_};
-ghost use lib.ListN.{length, take, drop};
+ghost use lib.ListN.{length};
 ghost use Rattle.logic.specs.Worklist.{run};
 ghost use Rattle.logic.specs.Plain.{plainSystem};
 ghost use Rattle.table.specs.declared.judge.Judgement.the-variants.{Accepted};
@@ -25,6 +24,7 @@ use table::format::Sizes;
 use table::judge::Judgement;
 use table::judge::Refusal;
 use table::judge::judge;
+use values::copy_words;
 ghost use Rattle.memory.specs.Layout.{tagCount, memorySize};
 
 // The words of scratch that a run needs.
@@ -61,18 +61,6 @@ fn run_started(
     work(table, s, budget, scratch, log, lines, start)
 }
 
-// The first words of one log into another.
-fn copy_lines(from: &[u16], lines: usize, log: &mut [u16])
-    requires { ⌜ (lines ≤ length (now from)) × (lines ≤ length (now log)) ⌝ }
-    ensures { λ _. ⌜ now (log .exit) ≡ take lines (now (from .entry)) ++ drop lines (now (log .entry)) ⌝ }
-{
-    let mut i: usize = 0;
-    while i < lines {
-        log[i] = from[i];
-        i += 1;
-    }
-}
-
 // A run in a draft, whose lines are copied: whether the log has a word for each is known at the end, and what is refused writes nothing.
 fn run_copied(
     table: &[u8],
@@ -92,7 +80,7 @@ fn run_copied(
     if log.len() < lines {
         return refuse(Refusal::ShortLog, log, scratch);
     }
-    copy_lines(draft, lines, log);
+    copy_words(draft, lines, log);
     clear(scratch);
     answer
 }

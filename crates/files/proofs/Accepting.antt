@@ -6,14 +6,15 @@ use borrow.Author.Tests.{le-ltb, eq-eqb}
 use mathlib.Core.Path.{_≡_, refl, sym, _∙_, ap, ap₂, subst}
 use mathlib.Core.Logic.{inr, ⊎-elim}
 use mathlib.Core.Bool.{Bool, false}
-use mathlib.Core.List.{List, [], _∷_, map}
-use lib.Dec.{T, ltb, eqb, leb→le, ltb→lt, lt→ltb, eqb-refl}
-use lib.ListN.{length, getD, length-map}
+use mathlib.Core.List.{List, map}
+use lib.Dec.{T, ltb, eqb, leb→le, lt→ltb}
+use lib.ListN.{length, getD}
 use Rattle.logic.specs.Tests.{_and_, _or_, isnt, every, upto}
 use Rattle.logic.specs.Theory.{proper, superior}
 use Rattle.logic.specs.Cycle.{Cycle}
-use Rattle.logic.proofs.Tests.{of-false, false-of, at-most, eq→eqb, and-intro, and-left, and-right, or-left, or-right, every-intro, every-elim, everyOf-elim, some-none}
-use Rattle.logic.proofs.Lists.{member-map-intro, member-pick-intro, member-upto-intro}
+use Rattle.logic.proofs.Tests.{of-false, false-of, at-most, eq→eqb, and-intro, or-left, or-right, every-intro, some-none}
+use Rattle.logic.proofs.Lists.{member-upto}
+use Rattle.logic.proofs.Rising.{rising-upto}
 use Rattle.logic.proofs.Cycle.{cyclic-sound}
 use Rattle.table.specs.declared.format.Sizes.{Sizes}
 use Rattle.table.specs.declared.judge.Judgement.the-variants.{Accepted}
@@ -27,9 +28,12 @@ use Rattle.table.proofs.Sections.{no-disorder}
 use Rattle.table.proofs.Sorted.{Before, before-left, before-right, facts-rise, entries-rise, pairs-rise}
 use Rattle.content.proofs.Files.{left-small, rule-left, origin-back}
 use Rattle.files.specs.Contents.{Content, contentIn, contentOf, factOf, ruleOf, entryOf, pairOf, sizesFor, Row, factRow, kindNumber, ruleRow, entryRow, pairRow, wordsOf, bytesOf, marked, fileOf, theoryFrom}
-use Rattle.files.proofs.Proper.{rowAt, Rising, Proper}
-use Rattle.files.proofs.Saying.{count-upto-map, at-upto, sizes-say, rule-says, entry-says, pair-says, theory-says}
-use Rattle.files.proofs.Reading.{row-of, file-layout, file-sizes, file-length, fact-stands, rule-stands, entry-stands, pair-stands, file-content}
+use Rattle.files.proofs.Lists.{map-map}
+use Rattle.files.proofs.Proper.{RowBefore, Rising, Proper}
+use Rattle.files.proofs.Theories.{fact-literal, head-literal, entry-literal, pair-rules}
+use Rattle.files.proofs.Saying.{sizes-say, rule-says, entry-says, theory-says}
+use Rattle.files.proofs.Rows.{rows-rise, rows-at}
+use Rattle.files.proofs.Reading.{file-layout, file-sizes, file-length, fact-stands, rule-stands, entry-stands, pair-stands, file-content}
 
 -- tests that fail
 neither : (a b : Bool) → a ≡ false → b ≡ false → a or b ≡ false
@@ -50,7 +54,7 @@ in-range b s g =
 later : Row → Row → Bool
 later v w = ltb (v .left) (w .left) or (eqb (v .left) (w .left) and ltb (v .right) (w .right))
 
-before-later : (v w : Row) → Before (v .left) (v .right) (w .left) (w .right) → T (later v w)
+before-later : (v w : Row) → RowBefore v w → T (later v w)
 unfolding later
 before-later v w t =
     ⊎-elim
@@ -63,8 +67,7 @@ Ordered w n = (i : ℕ) → i + 1 < n → T (later (w i) (w (i + 1)))
 
 rising-ordered : {A : Type 0} (f : A → Row) (l : List A) (d : A) → f d ≡ factRow 0 → Rising (map f l) → Ordered (λ i. f (getD l i d)) (length l)
 unfolding Ordered
-rising-ordered f l d e r i h =
-    subst T (ap₂ later (row-of f l d i e) (row-of f l d (i + 1) e)) (before-later _ _ (r i (i + 1) (omega arith) (omega (arith, length-map l f))))
+rising-ordered f l d e r i h = before-later _ _ (rows-at f l d e r i (i + 1) (omega arith) h)
 
 -- a section whose rows are ordered
 section-rises : (b : List ℕ) (s : Sizes) (k : ℕ) (w : ℕ → Row)
@@ -103,22 +106,15 @@ module _ (e : Edition) (c : Content) (p : Proper e c) where
       (sym (some-none _ _ (λ r h t. of-false _ (p .lefts r h) (subst (λ w. T (badLeft e w)) (rule-stands c r h .0) t))))
 
   file-ranged : Ranged (bytesOf (wordsOf c)) (sizesFor c)
-  unfolding theoryFrom
   file-ranged =
       record {
-        facts = λ i h. subst (λ z. z < 2 * c .atoms) (sym (fact-stands c i h .1)) (ltb→lt _ _ (every-elim _ _ (and-left _ _ (and-left _ _ (and-left _ _ (p .ranges)))) i h));
-        heads = λ r h. subst (λ z. z < 2 * c .atoms) (sym (rule-stands c r h .1)) (ltb→lt _ _ (every-elim _ _ (and-right _ _ (and-left _ _ (and-left _ _ (p .ranges)))) r h));
+        facts = λ i h. subst (λ z. z < 2 * c .atoms) (sym (fact-stands c i h .1)) (fact-literal e c p i h);
+        heads = λ r h. subst (λ z. z < 2 * c .atoms) (sym (rule-stands c r h .1)) (head-literal e c p r h);
         users = λ i h. subst (λ z. z < length (c .rules)) (sym (entry-stands c i h .0)) (p .users i h);
-        literals = λ i h. subst (λ z. z < 2 * c .atoms) (sym (entry-stands c i h .1)) (literal i h);
-        stronger = λ i h. subst (λ z. z < length (c .rules)) (sym (pair-stands c i h .0)) (ltb→lt _ _ (and-left _ _ (every-elim _ _ (and-right _ _ (p .ranges)) i h)));
-        weaker = λ i h. subst (λ z. z < length (c .rules)) (sym (pair-stands c i h .1)) (ltb→lt _ _ (and-right _ _ (every-elim _ _ (and-right _ _ (p .ranges)) i h)));
+        literals = λ i h. subst (λ z. z < 2 * c .atoms) (sym (entry-stands c i h .1)) (entry-literal e c p i h);
+        stronger = λ i h. subst (λ z. z < length (c .rules)) (sym (pair-stands c i h .0)) (pair-rules e c p i h .0);
+        weaker = λ i h. subst (λ z. z < length (c .rules)) (sym (pair-stands c i h .1)) (pair-rules e c p i h .1);
       }
-    where
-      literal : (i : ℕ) → i < length (c .entries) → entryOf c i .literal .0 < 2 * c .atoms
-      literal i h =
-          ltb→lt _ _ (everyOf-elim _ _ (every-elim _ _ (and-right _ _ (and-left _ _ (p .ranges))) (entryOf c i .rule) (p .users i h)) _
-          (member-map-intro (λ z. entryOf c z .literal .0) _ i
-          (member-pick-intro (upto (length (c .entries))) _ i (member-upto-intro (length (c .entries)) i h) (eqb-refl (entryOf c i .rule)))))
 
   file-acyclic : cycle (bytesOf (wordsOf c)) (sizesFor c) ≡ false
   unfolding cycle
@@ -170,15 +166,8 @@ unfolding Before
 before-second x y h = inr (refl, h)
 
 -- rows that rise as they are read
-rows-rise : {A : Type 0} (f : A → Row) (g : ℕ → A) (n : ℕ) (d : A) → f d ≡ factRow 0
-    → ((i j : ℕ) → i < j → j < n → Before (f (g i) .left) (f (g i) .right) (f (g j) .left) (f (g j) .right)) → Rising (map f (map g (upto n)))
-rows-rise f g n d e r i j h l =
-    let k : j < n = omega (arith, l, length-map (map g (upto n)) f, count-upto-map g n) in
-    let m : i < n = omega arith in
-    coe 0 1 (z. Before (sym (row i m) z .left) (sym (row i m) z .right) (sym (row j k) z .left) (sym (row j k) z .right)) (r i j h k)
-  where
-    row : (i : ℕ) → i < n → rowAt (map f (map g (upto n))) i ≡ f (g i)
-    row i h = row-of f (map g (upto n)) d i e ∙ ap f (at-upto g n i d h)
+read-rise : {A : Type 0} (f : A → Row) (g : ℕ → A) (n : ℕ) → ((i j : ℕ) → i < j → j < n → RowBefore (f (g i)) (f (g j))) → Rising (map f (map g (upto n)))
+read-rise f g n r = subst Rising (sym (map-map f g (upto n))) (rows-rise _ (upto n) (rising-upto n) (λ i j h _ v. r i j h (member-upto n j v)))
 
 -- a rule's left word is that of the rule that it says
 pub left-said : (e : Edition) (b : List ℕ) (s : Sizes) → badKind e b s ≡ false → (r : ℕ) → r < s .rules → ruleRow (ruleOf (contentIn b s) r) .left ≡ left b (rulesFrom s + r)
@@ -194,9 +183,9 @@ layout-proper e b s l k =
       ranges = subst (λ d. T (proper d)) (theory-says b s) (proper-theory b s (ranged b s (l .ranges)));
       users = λ i h. let j : i < s .entries = subst (λ z. i < z .entries) (sizes-say b s) h in
           subst (λ z. entryOf (contentIn b s) i .rule < z .rules) (sym (sizes-say b s)) (subst (λ z. z .rule < s .rules) (entry-says b s i) (rule-below b s (ranged b s (l .ranges)) i j));
-      facts = rows-rise factRow (λ i. factAt b s i .0) (s .facts) _ refl (λ i j h m. before-second _ _ (facts-rise b s (l .sorted) i j h m));
-      entries = rows-rise entryRow (entryAt b s) (s .entries) _ refl (entries-rise b s (l .sorted));
-      pairs = rows-rise pairRow (pairAt b s) (s .pairs) _ refl (pairs-rise b s (l .sorted));
+      facts = read-rise factRow (λ i. factAt b s i .0) (s .facts) (λ i j h m. before-second _ _ (facts-rise b s (l .sorted) i j h m));
+      entries = read-rise entryRow (entryAt b s) (s .entries) (entries-rise b s (l .sorted));
+      pairs = read-rise pairRow (pairAt b s) (s .pairs) (pairs-rise b s (l .sorted));
       acyclic = λ c. no-cycle b s l (subst (λ d. Cycle (superior d)) (sym (theory-says b s)) c);
     }
 

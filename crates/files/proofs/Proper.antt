@@ -16,8 +16,11 @@ use Rattle.files.specs.Contents.{Content, sizesFor, ruleOf, entryOf, Row
 abbrev pub rowAt : List Row → ℕ → Row
 rowAt l i = getD l i (factRow 0)
 
+abbrev pub RowBefore : Row → Row → Type 0
+RowBefore v w = Before (v .left) (v .right) (w .left) (w .right)
+
 abbrev pub Rising : List Row → Type 0
-Rising l = (i j : ℕ) → i < j → j < length l → Before (rowAt l i .left) (rowAt l i .right) (rowAt l j .left) (rowAt l j .right)
+Rising l = (i j : ℕ) → i < j → j < length l → RowBefore (rowAt l i) (rowAt l j)
 
 pub record Proper (e : Edition) (c : Content) : Type 0 where
   -- not 2

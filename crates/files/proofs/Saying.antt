@@ -2,7 +2,7 @@
 use Prim.Native.Nat.{ℕ, zero, suc, _%_, _/_, _≤_, _<_}
 use native.Mathlib.Nat.{not-suc-le-zero}
 use native.Mathlib.Omega.{arith}
-use mathlib.Core.Path.{_≡_, sym, _∙_, ap}
+use mathlib.Core.Path.{_≡_, sym, _∙_, ap, ap₂}
 use mathlib.Core.Logic.{⊎-elim}
 use mathlib.Core.List.{List, [], _∷_, map, map-append}
 use lib.Dec.{eqb}
@@ -12,9 +12,13 @@ use Rattle.logic.specs.Tests.{upto, pick}
 use Rattle.logic.proofs.Tests.{at-most, lt-suc-cases}
 use Rattle.logic.proofs.Lists.{length-upto}
 use Rattle.table.specs.declared.format.Sizes.{Sizes}
-use Rattle.table.specs.Format.{factsFrom, rulesFrom, entriesFrom, pairsFrom, kindOf, kindMeant, originOf, factAt, ruleAt, entryAt, pairAt, bodyIn, theoryIn}
-use Rattle.table.proofs.Legal.{left-past, right-past}
-use Rattle.files.specs.Contents.{contentIn, factOf, ruleOf, entryOf, pairOf, sizesFor, theoryFrom}
+use Rattle.table.specs.declared.judge.Judgement.the-variants.{Accepted}
+use Rattle.table.specs.declared.edition.Edition.{Edition}
+use Rattle.table.specs.Editions.{layoutOf}
+use Rattle.table.specs.Format.{sizesOf, factsFrom, rulesFrom, entriesFrom, pairsFrom, kindOf, kindMeant, originOf, factAt, ruleAt, entryAt, pairAt, bodyIn, theoryIn, theoryOf}
+use Rattle.table.specs.Refusals.{judgementOf}
+use Rattle.table.proofs.Legal.{legal, left-past, right-past}
+use Rattle.files.specs.Contents.{contentIn, contentOf, factOf, ruleOf, entryOf, pairOf, sizesFor, theoryFrom}
 
 -- the values at the numbers below n: how many, the i-th, what is past their end
 pub count-upto-map : {A : Type 0} (f : ℕ → A) (n : ℕ) → length (map f (upto n)) ≡ n
@@ -85,3 +89,11 @@ module _ (b : List ℕ) (s : Sizes) where
     pairs = sym sizes-say k .pairs;
     pair = λ i. record { stronger = pair-says i k .stronger; weaker = pair-says i k .weaker };
   }
+
+-- what a file says is what its content says
+pub file-theory : (e : Edition) (b : List ℕ) → theoryOf e b ≡ theoryFrom (contentOf e b)
+file-theory e b = theory-says (layoutOf e b) (sizesOf (layoutOf e b))
+
+-- what a table says, by the sizes that it was judged by
+pub said : (e : Edition) (b l : List ℕ) (s : Sizes) → judgementOf e b ≡ Accepted s → l ≡ layoutOf e b → contentIn l s ≡ contentOf e b
+said e b l s a f = ap₂ contentIn f (sym (legal e b s a .read))

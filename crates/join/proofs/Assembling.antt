@@ -27,7 +27,8 @@ use Rattle.writing.specs.declared.columns.Side.{Side}
 use Rattle.writing.specs.Columns.{wordIn, withWords, column}
 use Rattle.writing.proofs.Appending.{words-then, column-length}
 use Rattle.joining.specs.Joining.{inEither, over, pairsBelow, joined}
-use Rattle.joining.proofs.Lists.{map-map, map-below}
+use Rattle.joining.proofs.Lists.{map-below}
+use Rattle.files.proofs.Lists.{map-map}
 use Rattle.joining.proofs.Pairing.{pairs-canonical}
 use Rattle.joining.proofs.Rows.{tour-rows, pairs-count}
 use Rattle.join.specs.Written.{Words, pairWords, RulesOfBoth}

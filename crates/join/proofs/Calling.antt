@@ -1,13 +1,12 @@
 -- What a join answers and writes, number by number. Assumes nothing.
-use Prim.Native.Nat.{ℕ, _+_, _*_, _≤_, _<_}
-use native.Mathlib.Omega.{arith}
+use Prim.Native.Nat.{ℕ, _≤_, _<_}
 use mathlib.Core.Path.{_≡_, refl, sym, _∙_, ap, ap₂, subst}
 use mathlib.Core.Logic.{⊎-elim}
 use mathlib.Core.Bool.{Bool, true, false}
-use mathlib.Core.List.{List, [], _++_}
+use mathlib.Core.List.{List}
 use borrow.Author.Tests.{lt-ltb, le-ltb, ltb-false}
 use lib.Dec.{T, ltb, eqb, eqb→eq, eqb-refl}
-use lib.ListN.{length, length-append}
+use lib.ListN.{length}
 use lib.Seq.{sets}
 use Rattle.logic.specs.Tests.{_or_, isnt}
 use Rattle.logic.proofs.Tests.{true-of, false-of, isnt-intro, isnt-elim, of-false, test-cases}
@@ -18,17 +17,16 @@ use Rattle.table.specs.declared.judge.Judgement.{Judgement}
 use Rattle.table.specs.declared.judge.Judgement.the-variants as judgement
 use Rattle.table.specs.declared.edition.Edition.{Edition}
 use Rattle.table.specs.Editions.{layoutOf}
-use Rattle.table.specs.Format.{spanOf}
 use Rattle.table.specs.Refusals.{oversize, judgementOf, Legal}
-use Rattle.table.proofs.Legal.{refused-not, pass, or-fails, limited, legal}
-use Rattle.files.specs.Contents.{Content, contentIn, contentOf, sizesFor, wordsOf, bytesOf, marked, fileOf}
-use Rattle.files.proofs.Reading.{file-length}
+use Rattle.table.proofs.Legal.{refused-not, pass, or-fails, limited}
+use Rattle.files.specs.Contents.{Content, contentIn, contentOf, sizesFor, fileOf}
+use Rattle.files.proofs.Saying.{said}
 use Rattle.writing.specs.declared.answer.Written.{Written}
 use Rattle.writing.specs.declared.answer.Written.the-variants as written
 use Rattle.writing.specs.Answers.{numbersOf}
 use Rattle.writing.specs.Output.{answerTo, outputAfter, Wrote}
 use Rattle.writing.proofs.Answering.{wrote-not, wrote-new}
-use Rattle.writing.proofs.Appending.{marked-append, written-whole}
+use Rattle.writing.proofs.Appending.{written-whole}
 use Rattle.joining.specs.Joining.{joined, joinedFile}
 use Rattle.joining.specs.Prevailing.{Join}
 use Rattle.joining.proofs.Joins.{join-of}
@@ -70,11 +68,6 @@ module _ (b : List ℕ) (s : Sizes) (c : List ℕ) (t : Sizes) (l : Legal b s) {
   sized z e f g =
       let h = sizes-are z g in let fit = few-enough e f .0 in (h, subst (λ y. oversize y ≡ false) (sym h) fit, fit)
 
--- the bytes of a file
-pub file-bytes : (e : Edition) (c : Content) (z : Sizes) {m span : ℕ} → z ≡ sizesFor c → m ≡ length (marked e []) → span ≡ spanOf z → m + 10 + 4 * span ≡ length (fileOf e c)
-file-bytes e c z {m} {span} f g h =
-    omega (arith, g, h, ap spanOf f, ap length (sym (marked-append e (bytesOf (wordsOf c)))), length-append (marked e []) (bytesOf (wordsOf c)), file-length c)
-
 -- 11, 2, 12, or the file
 module _ (e : Edition) (b : List ℕ) (s : Sizes) (c : List ℕ) (t : Sizes) (out : List ℕ) where
   abbrev whole : Content
@@ -107,17 +100,13 @@ module _ (e : Edition) (b : List ℕ) (s : Sizes) (c : List ℕ) (t : Sizes) (ou
 
 -- of two tables
 module _ (e : Edition) (house tour out : List ℕ) where
-  -- what a table says, by the sizes that it was judged by
-  said : (b l : List ℕ) (s : Sizes) → judgementOf e b ≡ judgement.Accepted s → l ≡ layoutOf e b → contentIn l s ≡ contentOf e b
-  said b l s a f = ap₂ contentIn f (sym (legal e b s a .read))
-
   pub both-accepted : (s t : Sizes) (b c : List ℕ) {out′ : List ℕ} {a : Written} → judgementOf e house ≡ judgement.Accepted s → judgementOf e tour ≡ judgement.Accepted t
       → b ≡ layoutOf e house → c ≡ layoutOf e tour → JoinedLayouts e b s c t out out′ a → Wrote (joinJudgement e house tour (length out)) (joinedFile e house tour) out out′ a
   unfolding callJudgement
   both-accepted s t b c {out′} {a} h k f g w =
       subst (λ j. Wrote j (joinedFile e house tour) out out′ a)
       (sym (ap₂ (λ i j. callJudgement i j (joined (contentOf e house) (contentOf e tour)) (joinedFile e house tour) (length out)) h k))
-      (subst (λ z. Wrote (withOutput s t z (fileOf e z) (length out)) (fileOf e z) out out′ a) (ap₂ joined (said house b s h f) (said tour c t k g)) w)
+      (subst (λ z. Wrote (withOutput s t z (fileOf e z) (length out)) (fileOf e z) out out′ a) (ap₂ joined (said e house b s h f) (said e tour c t k g)) w)
 
   pub tour-refused : (s : Sizes) (n : Refusal) {out′ : List ℕ} {a : Written} → judgementOf e house ≡ judgement.Accepted s → judgementOf e tour ≡ judgement.Refused n
       → (a ≡ written.Refused n) × (out′ ≡ out) → Wrote (joinJudgement e house tour (length out)) (joinedFile e house tour) out out′ a

@@ -10,7 +10,7 @@ use Rattle.logic.proofs.Tests.{true-of}
 use Rattle.writing.specs.Columns.{withWords}
 use Rattle.join.specs.Heads.{Chain}
 use Rattle.join.specs.Written.{Words}
-use Rattle.join.proofs.Picking.{Put, nothing-put, put-one, next-put, skip-put, all-put}
+use Rattle.writing.proofs.Picking.{Put, nothing-put, put-one, next-put, skip-put, all-put}
 
 module _ (word : ℕ → ℕ) (n start : ℕ) (next out : List ℕ) (at : ℕ) where
   -- the chain has come to j, and what stands before it is written
@@ -29,7 +29,7 @@ module _ (word : ℕ → ℕ) (n start : ℕ) (next out : List ℕ) (at : ℕ) w
       subst (λ i. (i ≤ n) × (i < n → T (p i)) × Put word out at p i (place + 2) b) z (
         v .most,
         v .passes,
-        skip-put word out at p (j + 1) (getD next j 0) (v .from) (v .none) (next-put word out at p j u (sym (true-of (p j) (t h))) (put-one word a place true j refl e f)),
+        skip-put word out at p (j + 1) (getD next j 0) (v .from) (v .none) (next-put word out at p j u (sym (true-of (p j) (t h))) e (put-one a place true _ refl f)),
       )
 
   pub reached-all : (j : ℕ) {place : ℕ} {a : List ℕ} → n ≤ j → Reached j place a → (p : ℕ → Bool) → Chain p n start next → Words out at (map word (pick (upto n) p)) a place

@@ -20,7 +20,8 @@ use Rattle.writing.specs.declared.columns.Side.{Side}
 use Rattle.writing.specs.Columns.{wordIn, withWords, column}
 use Rattle.writing.proofs.Appending.{words-then, column-length}
 use Rattle.joining.specs.Joining.{over, pairsBelow, pairsUnder}
-use Rattle.joining.proofs.Lists.{map-map, map-below}
+use Rattle.joining.proofs.Lists.{map-below}
+use Rattle.files.proofs.Lists.{map-map}
 use Rattle.joining.proofs.Pairing.{pair, own-strong, own-row}
 use Rattle.joining.proofs.Rows.{house-row}
 use Rattle.join.specs.Heads.{Next, Chain, withHead, ByHeads}

@@ -1,9 +1,8 @@
 // The facts of both tables, as marks.
-ghost use Prim.Native.Nat.{_+_, _*_, _≤_};
+ghost use Prim.Native.Nat.{_≤_};
 ghost use mathlib.Core.Path.{_≡_};
-ghost use mathlib.Core.Bool.{cond};
-ghost use mathlib.Core.List.{[], _∷_, map};
-ghost use Rattle.logic.specs.Tests.{_or_, countBelow, weigh, upto, pick};
+ghost use mathlib.Core.List.{map};
+ghost use Rattle.logic.specs.Tests.{_or_, countBelow, upto, pick};
 ghost use Rattle.logic.specs.Theory.{isFact};
 ghost use Rattle.table.specs.Format.{theoryIn};
 ghost use Rattle.standing.specs.Marks.{marked, MarkedBy};
@@ -16,7 +15,7 @@ use table::format::read_fact;
 use values::add_if;
 use values::either;
 use writing::columns::Side;
-use writing::columns::put_word;
+use writing::columns::put_if;
 use writing::columns::word_in;
 
 // The facts of a table.
@@ -54,19 +53,6 @@ pub fn count_facts(house: &[u8], tour: &[u8], n: usize) -> usize
     count
 }
 
-// A fact at a place of the output, if the test says so; and the place after it.
-fn put_fact_if(out: &mut [u8], at: usize, side: Side, q: u16, test: bool) -> usize
-    requires { ⌜ at ≤ 100000 ⌝ }
-    ensures { λ r. ⌜ (now (out .exit) ≡ withWords (now (out .entry)) at (map (λ z. wordIn side (factRow z)) (cond test (q ∷ []) []))) × (r ≡ at + 2 * weigh test 1) ⌝ }
-{
-    if test {
-        put_word(out, at, word_in(side, 0, q));
-        at + 2
-    } else {
-        at
-    }
-}
-
 // The literals below n that are facts of either.
 pub fn write_facts(out: &mut [u8], at: usize, side: Side, house: &[u8], tour: &[u8], n: usize)
     requires { ⌜ (at ≤ 65536) × (n ≤ 1024) ⌝ }
@@ -75,7 +61,8 @@ pub fn write_facts(out: &mut [u8], at: usize, side: Side, house: &[u8], tour: &[
     let mut place = at;
     let mut q: usize = 0;
     while q < n {
-        place = put_fact_if(out, place, side, q as u16, in_either(house, tour, q));
+        let word = word_in(side, 0, q as u16);
+        place = put_if(out, place, word, in_either(house, tour, q));
         q += 1;
     }
 }

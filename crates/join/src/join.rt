@@ -1,7 +1,6 @@
 // The join: house and tour in one table. What is refused writes nothing.
 ghost use mathlib.Core.Path.{_≡_};
 ghost use mathlib.Core.Bool.{false};
-ghost use mathlib.Core.List.{[]};
 ghost use lib.ListN.{length};
 ghost use lib.Seq.{sets};
 ghost use Rattle.logic.specs.Theory.{isFact};
@@ -9,7 +8,7 @@ ghost use Rattle.table.specs.declared.judge.Judgement.the-variants.{Accepted};
 ghost use Rattle.table.specs.Format.{theoryIn};
 ghost use Rattle.table.specs.Refusals.{oversize, judgementOf, Legal};
 ghost use Rattle.standing.specs.Marks.{MarkedBy};
-ghost use Rattle.files.specs.Contents.{contentIn, sizesFor, marked, fileOf};
+ghost use Rattle.files.specs.Contents.{contentIn, sizesFor, fileOf};
 ghost use Rattle.writing.specs.Answers.{numbersOf};
 ghost use Rattle.writing.specs.Output.{Wrote};
 ghost use Rattle.joining.specs.Joining.{joined, joinedFile};
@@ -29,16 +28,8 @@ use writing::answer::Written;
 use writing::answer::refuse;
 use writing::columns::Side;
 use writing::columns::begin;
+use writing::columns::mark_bytes;
 use writing::columns::write_sizes;
-
-fn mark_bytes(edition: Edition) -> usize
-    ensures { λ r. ⌜ r ≡ length (marked edition []) ⌝ }
-{
-    match edition {
-        Edition::Old => 0,
-        Edition::Two => 1,
-    }
-}
 
 // The joined file at the front of the output, by its sizes and the facts of both tables.
 fn write_file(

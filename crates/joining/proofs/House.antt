@@ -6,32 +6,35 @@ use mathlib.Core.Path.{_≡_, refl, sym, _∙_, ap, ap₂, subst}
 use mathlib.Core.Logic.{⊎-elim}
 use mathlib.Core.Bool.{Bool}
 use mathlib.Core.List.{List, _∷_, [], _++_, map}
-use lib.Dec.{T, eqb→eq, eqb-refl}
+use lib.Dec.{T, eqb-refl}
 use lib.ListN.{length, length-append, length-map, List·getD-append}
 use lib.Seq.{getD-append-add}
-use Rattle.logic.specs.Tests.{member, upto}
+use Rattle.logic.specs.Tests.{member}
 use Rattle.logic.specs.Theory.{Theory, complement, canSupport, kindOf, headOf, bodyOf, supporter, attacker, superior, proper}
 use Rattle.logic.specs.Inference.{−Δ, +∂, allHave, follows}
 use Rattle.logic.specs.Worklist.{run, logOf}
 use Rattle.logic.specs.Reading.{conclusion, systemOf}
-use Rattle.logic.specs.Plain.{plainSystem}
+use Rattle.logic.specs.Plain.{plain, plainSystem}
+use Rattle.logic.specs.Laws.{logged}
 use Rattle.logic.proofs.Tests.{at-most, eq→eqb, and-intro, or-right, implies-intro, every-intro, some-intro, everyOf-intro, everyOf-elim}
-use Rattle.logic.proofs.Lists.{member-last, member-map, member-map-intro, member-pick, member-pick-intro, member-upto, member-upto-intro}
+use Rattle.logic.proofs.Lists.{member-last}
 use Rattle.logic.proofs.Literals.{join-div, join-mod, join-below}
 use Rattle.logic.proofs.Theories.{heads-below}
 use Rattle.logic.proofs.Derivations.{derivation-snoc}
 use Rattle.logic.proofs.Plain.{attacker-head, plain-demands}
 use Rattle.table.specs.Format.{kindMeant}
 use Rattle.files.specs.Contents.{Content, ruleOf, entryOf, laterEntry, theoryFrom}
+use Rattle.files.proofs.Lists.{at-map}
+use Rattle.files.proofs.Theories.{body-place}
 use Rattle.joining.specs.Joining.{over, joined}
-use Rattle.joining.specs.Prevailing.{logged, Prevails}
-use Rattle.joining.proofs.Lists.{at-map, places}
+use Rattle.joining.specs.Prevailing.{Prevails}
+use Rattle.joining.proofs.Lists.{places}
 use Rattle.joining.proofs.Pairing.{superior-listed}
 use Rattle.joining.proofs.Rows.{added-in}
 
 -- what follows from the log of a finished plain run is in it
 finished-holds : (d : Theory) → T (proper d) → (budget q t : ℕ) → T (run (plainSystem d) budget .finished) → q < 2 * d .atoms → t < 4
-    → T (follows d (logged d budget) q t) → T (logged d budget q t)
+    → T (follows d (logged plain d budget) q t) → T (logged plain d budget q t)
 unfolding systemOf
 finished-holds d p budget q t f b h u =
     let l : List ℕ = logOf (run (plainSystem d) budget) in
@@ -39,7 +42,7 @@ finished-holds d p budget q t f b h u =
     plain-demands d p budget .exact f x .1 (
       l ++ (x ∷ []),
       derivation-snoc (plainSystem d) l x (plain-demands d p budget .isDerivation) (join-below 4 (2 * d .atoms) q t h b)
-          (subst T (ap₂ (follows d (logged d budget)) (sym (join-div 4 q t h)) (sym (join-mod 4 q t h))) u),
+          (subst T (ap₂ (follows d (logged plain d budget)) (sym (join-div 4 q t h)) (sym (join-mod 4 q t h))) u),
       member-last l x,
     )
 
@@ -64,29 +67,24 @@ module _ (h t : Content) where
 
   -- and it has no more antecedents
   house-body : (r q : ℕ) → r < length (h .rules) → T (member q (bodyOf (theoryFrom (joined h t)) r)) → T (member q (bodyOf (theoryFrom h) r))
-  unfolding theoryFrom
   house-body r q b m =
-      let (i, u, e) = member-map (λ z. entryOf (joined h t) z .literal .0) _ q m in
-      let (v, w) = member-pick (upto (length (joined h t .entries))) _ i u in
-      ⊎-elim
-      (λ k. subst (λ z. T (member z (bodyOf (theoryFrom h) r))) (ap (λ z. z .literal .0) (sym (k .1)) ∙ sym e)
-      (member-map-intro (λ z. entryOf h z .literal .0) _ i
-      (member-pick-intro (upto (length (h .entries))) _ i (member-upto-intro _ i (k .0)) (eq→eqb _ _ (ap (λ z. z .rule) (sym (k .1)) ∙ eqb→eq _ _ w)))))
+      let (i, v, w, e) = body-place (joined h t) r q .0 m in
+      ⊎-elim (λ k. body-place h r q .1 (i, k .0, ap (λ z. z .rule) (sym (k .1)) ∙ w, ap (λ z. z .literal .0) (sym (k .1)) ∙ e))
       (λ k. let (j, x, _, f) = k in
       let at : entryOf (joined h t) i .rule ≡ length (h .rules) + entryOf t j .rule =
       ap (λ z. z .rule) (f ∙ at-map (laterEntry (length (h .rules))) (t .entries) j _ _ (subst (λ z. j < z) (length-map (t .entries) _) x)) in
-      absurd (lt-irrefl r (omega (arith, at, eqb→eq (entryOf (joined h t) i .rule) r w))))
-      (places (h .entries) (map (laterEntry (length (h .rules))) (t .entries)) _ i (member-upto _ i v))
+      absurd (lt-irrefl r (omega (arith, at, w))))
+      (places (h .entries) (map (laterEntry (length (h .rules))) (t .entries)) _ i v)
 
   -- "In a finished plain run, a strict or defeasible house rule that fires gives its head +∂ wherever no house rule attacks it and the head's
   -- complement has −Δ."
   pub house-prevails : T (proper (theoryFrom (joined h t))) → Prevails (theoryFrom h) (theoryFrom (joined h t))
   unfolding theoryFrom allHave attacker
   house-prevails p budget r f b k a n c =
-      subst (λ q. T (logged d budget q +∂)) head
+      subst (λ q. T (logged plain d budget q +∂)) head
       (finished-holds d p budget (headOf d r) +∂ f (heads-below d p r in-join) (omega arith)
-      (over-all d (logged d budget) r in-join (subst (λ z. T (canSupport (kindMeant (z .kind)))) (sym (house-rule r b)) k)
-      (everyOf-intro _ _ (λ q m. everyOf-elim _ _ a q (house-body r q b m))) (subst (λ q. T (logged d budget (complement q) −Δ)) (sym head) c) beats))
+      (over-all d (logged plain d budget) r in-join (subst (λ z. T (canSupport (kindMeant (z .kind)))) (sym (house-rule r b)) k)
+      (everyOf-intro _ _ (λ q m. everyOf-elim _ _ a q (house-body r q b m))) (subst (λ q. T (logged plain d budget (complement q) −Δ)) (sym head) c) beats))
     where
       d : Theory
       d = theoryFrom (joined h t)

@@ -8,12 +8,11 @@ use Rattle.logic.specs.Cycle.{Cycle}
 use Rattle.table.specs.declared.format.Sizes.{Sizes}
 use Rattle.table.specs.declared.judge.Judgement.the-variants.{Accepted}
 use Rattle.table.specs.declared.edition.Edition.{Edition}
-use Rattle.table.specs.Editions.{layoutOf}
-use Rattle.table.specs.Format.{sizesOf, theoryOf}
+use Rattle.table.specs.Format.{theoryOf}
 use Rattle.table.specs.Refusals.{oversize, judgementOf}
 use Rattle.table.proofs.Legal.{passed}
 use Rattle.files.specs.Contents.{contentOf, sizesFor, theoryFrom}
-use Rattle.files.proofs.Saying.{theory-says}
+use Rattle.files.proofs.Saying.{file-theory}
 use Rattle.files.proofs.Reading.{file-says}
 use Rattle.files.proofs.Proper.{Proper}
 use Rattle.files.proofs.Accepting.{file-accepted, content-proper}
@@ -21,10 +20,6 @@ use Rattle.joining.specs.Joining.{joined, joinedFile}
 use Rattle.joining.specs.Prevailing.{Prevails, Join}
 use Rattle.joining.proofs.Proper.{joined-proper}
 use Rattle.joining.proofs.House.{house-prevails}
-
--- what a file says is what its content says
-file-theory : (e : Edition) (b : List ℕ) → theoryOf e b ≡ theoryFrom (contentOf e b)
-file-theory e b = theory-says (layoutOf e b) (sizesOf (layoutOf e b))
 
 pub join-of : (e : Edition) (house tour : List ℕ) (s t : Sizes) → judgementOf e house ≡ Accepted s → judgementOf e tour ≡ Accepted t → s .atoms ≡ t .atoms
     → oversize (sizesFor (joined (contentOf e house) (contentOf e tour))) ≡ false → Join e house tour (joinedFile e house tour)

@@ -1,6 +1,6 @@
 -- Laws of lists: what stands at their places, and the numbers below a sum. Assumes nothing.
 use Prim.Native.Nat.{ℕ, zero, suc, _+_, _-_, _<_}
-use native.Mathlib.Nat.{le-refl, le-step, add-zero, add-suc, not-suc-le-zero}
+use native.Mathlib.Nat.{le-refl, le-step, add-zero, add-suc}
 use native.Mathlib.Omega.{arith}
 use mathlib.Core.Path.{_≡_, refl, sym, _∙_, ap, ap₂, subst}
 use mathlib.Core.Logic.{_⊎_, inl, inr, ⊎-elim}
@@ -10,26 +10,16 @@ use lib.Dec.{T}
 use lib.ListN.{length, getD, length-append, length-map, List·getD-append}
 use lib.Seq.{getD-append-add}
 use Rattle.logic.specs.Tests.{upto, pick, member}
-use Rattle.logic.proofs.Tests.{cond-false, at-most, and-right}
-use Rattle.logic.proofs.Lists.{member-here, member-there, member-upto, member-getD, pick-append}
-use Rattle.logic.proofs.Rising.{risingFrom, rising-member}
+use Rattle.logic.proofs.Tests.{cond-false, at-most}
+use Rattle.logic.proofs.Lists.{member-here, member-there, member-upto, pick-append}
+use Rattle.files.proofs.Lists.{at-map}
 
--- a map after a map; two maps that agree on the numbers below n
-pub map-map : {A B C : Type 0} (f : B → C) (g : A → B) (l : List A) → map f (map g l) ≡ map (λ x. f (g x)) l
-map-map f g [] = refl
-map-map f g (x ∷ l) = ap (λ k. f (g x) ∷ k) (map-map f g l)
-
+-- two maps that agree on the numbers below n
 pub map-below : {A : Type 0} (f g : ℕ → A) (n : ℕ) → ((i : ℕ) → i < n → f i ≡ g i) → map f (upto n) ≡ map g (upto n)
 unfolding upto
 map-below f g zero e = refl
 map-below f g (suc n) e =
     map-append f (upto n) (n ∷ []) ∙ ap₂ (λ k x. k ++ (x ∷ [])) (map-below f g n (λ i h. e i (le-step h))) (e n (le-refl (suc n))) ∙ sym (map-append g (upto n) (n ∷ []))
-
--- the i-th of a map
-pub at-map : {A B : Type 0} (f : A → B) (l : List A) (i : ℕ) (d : A) (e : B) → i < length l → getD (map f l) i e ≡ f (getD l i d)
-at-map f [] i d e h = absurd (not-suc-le-zero h)
-at-map f (x ∷ l) zero d e h = refl
-at-map f (x ∷ l) (suc i) d e h = at-map f l i d e (omega arith)
 
 -- the numbers below a sum, and those of them that pass
 pub upto-split : (m n : ℕ) → upto (m + n) ≡ upto m ++ map (λ j. m + j) (upto n)
@@ -78,11 +68,3 @@ each-append P l m d f g i h =
 pub each-map : {A B : Type 0} (P : B → Type 0) (f : A → B) (l : List A) (d : A) (e : B) → ((i : ℕ) → i < length l → P (f (getD l i d)))
     → (i : ℕ) → i < length (map f l) → P (getD (map f l) i e)
 each-map P f l d e g i h = let k : i < length l = omega (arith, h, length-map l f) in subst P (sym (at-map f l i d e k)) (g i k)
-
--- a rising list rises from any place to any later one
-pub rising-places : (m : ℕ) (l : List ℕ) → T (risingFrom m l) → (i j : ℕ) → i < j → j < length l → getD l i 0 < getD l j 0
-unfolding risingFrom
-rising-places m [] t i j h k = absurd (not-suc-le-zero k)
-rising-places m (x ∷ l) t i zero h k = absurd (not-suc-le-zero h)
-rising-places m (x ∷ l) t zero (suc j) h k = rising-member (suc x) l (and-right _ _ t) (getD l j 0) (member-getD l j (omega arith))
-rising-places m (x ∷ l) t (suc i) (suc j) h k = rising-places (suc x) l (and-right _ _ t) i j (omega arith) (omega arith)

@@ -1,6 +1,6 @@
 -- The pairs of a relation as they are listed, and that an accepted table's pairs are those of its superiority. Assumes nothing.
 use Prim.Native.Nat.{ℕ, zero, suc, _+_, _-_, _≤_, _<_}
-use native.Mathlib.Nat.{le-refl, le-step, lt-irrefl, le-antisymm, le-of-lt, lt-trans, lt-of-lt-of-le, not-suc-le-zero}
+use native.Mathlib.Nat.{le-refl, le-step, lt-irrefl, le-antisymm, le-of-lt, lt-of-lt-of-le, not-suc-le-zero}
 use native.Mathlib.Numerals.{add-one}
 use native.Mathlib.Omega.{arith}
 use mathlib.Core.Path.{_≡_, refl, sym, _∙_, ap, ap₂, subst}
@@ -10,9 +10,9 @@ use mathlib.Core.List.{List, [], _∷_, _++_, map, map-append}
 use lib.Dec.{T, ltb, eqb→eq, eqb-refl, ltb→lt, lt→ltb}
 use lib.ListN.{length, getD, length-append, length-map, List·getD-append}
 use lib.Seq.{getD-append-add}
-use Rattle.logic.specs.Tests.{member, countBelow, upto, pick}
+use Rattle.logic.specs.Tests.{member, upto, pick}
 use Rattle.logic.specs.Theory.{Theory, superior}
-use Rattle.logic.proofs.Tests.{test-eq, at-most, lt-suc-cases, eq→eqb, and-intro, and-left, and-right, some-intro, some-elim}
+use Rattle.logic.proofs.Tests.{test-eq, at-most, lt-suc-cases, and-intro, and-left, and-right, some-intro, some-elim}
 use Rattle.logic.proofs.Lists.{member-nil, member-here, member-there, member-cons-elim, member-map, member-map-intro, member-upto, member-upto-intro, member-pick, member-pick-intro}
 use Rattle.logic.proofs.Rising.{rising-upto, rising-pick, rising-map, rising-same, risingFrom, count-all, count-down, count-up}
 use Rattle.logic.proofs.Sums.{total-le, total-zero, weigh-imply, weigh-false}
@@ -24,10 +24,13 @@ use Rattle.table.specs.Refusals.{Legal}
 use Rattle.table.proofs.Legal.{ranged, stronger-below, weaker-below}
 use Rattle.table.proofs.Sorted.{Before, before-left, before-right, pairs-rise}
 use Rattle.files.specs.Contents.{Content, Row, factRow, pairRow, theoryFrom}
-use Rattle.files.proofs.Proper.{rowAt, Rising}
+use Rattle.files.proofs.Lists.{map-map, at-map}
+use Rattle.files.proofs.Proper.{rowAt, RowBefore, Rising}
+use Rattle.files.proofs.Theories as theories
 use Rattle.files.proofs.Reading.{row-of}
+use Rattle.files.proofs.Rows.{rows-rise}
 use Rattle.joining.specs.Joining.{pairsBelow, pairsUnder}
-use Rattle.joining.proofs.Lists.{map-map, map-below, at-map, upto-split, places, rising-places}
+use Rattle.joining.proofs.Lists.{map-below, upto-split, places}
 
 -- rule t over rule s; the pair stands in a list
 abbrev pub pair : ℕ → ℕ → Pair
@@ -88,12 +91,10 @@ pairs-range m n R i h = let (a, b, _) = pairs-only m n R _ _ (i, h, refl) in (a,
 -- superiority by listed pairs
 pub superior-listed : (c : Content) (m n : ℕ) (R : ℕ → ℕ → Bool) → c .pairs ≡ pairsBelow m n R → (t s : ℕ)
     → T (superior (theoryFrom c) t s) ↔ ((t < m) × (s < n) × T (R t s))
-unfolding superior theoryFrom
 superior-listed c m n R e t s = (
-  λ u. let (i, h, v) = some-elim _ _ u in
-      pairs-only m n R t s (subst (λ l. Listed l t s) e (i, h, ap₂ pair (eqb→eq _ _ (and-left _ _ v)) (eqb→eq _ _ (and-right _ _ v)))),
+  λ u. let (i, h, f, g) = theories.superior-place c t s .0 u in pairs-only m n R t s (subst (λ l. Listed l t s) e (i, h, ap₂ pair f g)),
   λ u. let (i, h, v) = subst (λ l. Listed l t s) (sym e) (pairs-in m n R t s (u .0) (u .1) (u .2)) in
-      some-intro _ _ i h (and-intro _ _ (eq→eqb _ _ (ap (λ p. p .stronger) v)) (eq→eqb _ _ (ap (λ p. p .weaker) v))),
+      theories.superior-place c t s .1 (i, h, ap (λ p. p .stronger) v, ap (λ p. p .weaker) v),
 )
 
 pub superior-below : (c : Content) (n : ℕ) (R : ℕ → ℕ → Bool) → c .pairs ≡ pairsBelow n n R → ((t s : ℕ) → T (R t s) → (t < n) × (s < n))
@@ -102,7 +103,7 @@ superior-below c n R e b t s = let (f, g) = superior-listed c n n R e t s in tes
 
 -- rows that rise, after which come rows that rise
 pub rising-append : (l m : List Row) → Rising l → Rising m
-    → ((i j : ℕ) → i < length l → j < length m → Before (rowAt l i .left) (rowAt l i .right) (rowAt m j .left) (rowAt m j .right)) → Rising (l ++ m)
+    → ((i j : ℕ) → i < length l → j < length m → RowBefore (rowAt l i) (rowAt m j)) → Rising (l ++ m)
 rising-append l m p q b i j h k = ⊎-elim
     (λ v. before (⊎-elim (λ u. u .1) (λ u. absurd (lt-irrefl i (omega (arith, v .0, u .2)))) (at i (omega arith))) (v .1) (p i j h (v .0)))
     (λ v. let (y, w, e, f) = v in
@@ -112,8 +113,8 @@ rising-append l m p q b i j h k = ⊎-elim
     at : (i : ℕ) → i < length (l ++ m) → ((i < length l) × (rowAt (l ++ m) i ≡ rowAt l i)) ⊎ ((j : ℕ) × (j < length m) × (i ≡ length l + j) × (rowAt (l ++ m) i ≡ rowAt m j))
     at = places l m (factRow 0)
 
-    before : {v w v′ w′ : Row} → v ≡ v′ → w ≡ w′ → Before (v′ .left) (v′ .right) (w′ .left) (w′ .right) → Before (v .left) (v .right) (w .left) (w .right)
-    before e f t = coe 0 1 (z. Before (sym e z .left) (sym e z .right) (sym f z .left) (sym f z .right)) t
+    before : {v w v′ w′ : Row} → v ≡ v′ → w ≡ w′ → RowBefore v′ w′ → RowBefore v w
+    before e f t = coe 0 1 (z. RowBefore (sym e z) (sym f z)) t
 
 -- the rows of one left word
 abbrev pub rowsOver : ℕ → List ℕ → List Row
@@ -125,12 +126,7 @@ row-over x k i h = at-map _ k i 0 _ (subst (λ z. i < z) (length-map k _) h)
 -- they rise, and so do the rows of a relation
 pub over-rising : (x : ℕ) (k : List ℕ) → T (risingFrom 0 k) → Rising (rowsOver x k)
 unfolding Before
-over-rising x k r i j h l =
-    let u : i < length (rowsOver x k) = lt-trans h l in
-    inr (
-      ap (λ w. w .left) (row-over x k i u) ∙ sym (ap (λ w. w .left) (row-over x k j l)),
-      coe 0 1 (z. sym (row-over x k i u) z .right < sym (row-over x k j l) z .right) (rising-places 0 k r i j h (subst (λ z. j < z) (length-map k _) l)),
-    )
+over-rising x k r = rows-rise _ k r (λ i j h _ _. inr (refl, h))
 
 pub pairs-rising : (m n : ℕ) (R : ℕ → ℕ → Bool) → Rising (map pairRow (pairsBelow m n R))
 unfolding pairsBelow Before

@@ -3,51 +3,40 @@ use Prim.Native.Nat.{ℕ, _+_, _*_, _≤_, _<_}
 use native.Mathlib.Nat.{lt-of-lt-of-le}
 use native.Mathlib.Omega.{arith}
 use mathlib.Core.Path.{_≡_, refl, sym, _∙_, ap, subst}
-use mathlib.Core.Logic.{inl, inr}
+use mathlib.Core.Logic.{inl}
 use mathlib.Core.Bool.{false}
 use mathlib.Core.List.{List, _++_, map, map-append}
-use lib.Dec.{T, lt→ltb, ltb→lt, eqb-refl}
+use lib.Dec.{T, lt→ltb}
 use lib.ListN.{length, length-append, length-map}
 use Rattle.logic.specs.Tests.{upto}
 use Rattle.logic.specs.Theory.{proper}
-use Rattle.logic.proofs.Tests.{and-intro, and-left, and-right, every-intro, every-elim, everyOf-intro, everyOf-elim}
-use Rattle.logic.proofs.Lists.{member-getD, member-map, member-map-intro, member-pick, member-pick-intro, member-upto, member-upto-intro}
+use Rattle.logic.proofs.Tests.{and-intro, every-intro, everyOf-intro}
+use Rattle.logic.proofs.Lists.{member-getD, member-pick, member-upto}
 use Rattle.logic.proofs.Rising.{rising-upto, rising-pick}
-use Rattle.logic.proofs.Theories.{heads-below}
 use Rattle.table.specs.declared.format.Entry.{Entry}
 use Rattle.table.specs.declared.edition.Edition.{Edition}
 use Rattle.table.specs.Refusals.{oversize, badLeft}
 use Rattle.table.proofs.Sorted.{Before}
 use Rattle.files.specs.Contents.{Content, ruleOf, entryOf, laterEntry, sizesFor, Row, factRow, ruleRow, entryRow, theoryFrom}
-use Rattle.files.proofs.Proper.{rowAt, Rising, Proper}
+use Rattle.files.proofs.Lists.{map-map, at-map}
+use Rattle.files.proofs.Proper.{rowAt, RowBefore, Rising, Proper}
+use Rattle.files.proofs.Theories.{body-place, head-literal, entry-literal}
 use Rattle.files.proofs.Reading.{row-of}
+use Rattle.files.proofs.Rows.{before-kept}
 use Rattle.joining.specs.Joining.{over, joined}
-use Rattle.joining.proofs.Lists.{map-map, at-map, each-append, each-map}
+use Rattle.joining.proofs.Lists.{each-append, each-map}
 use Rattle.joining.proofs.Pairing.{pairs-range, rising-append, over-rising, pairs-rising}
 use Rattle.joining.proofs.Acyclic.{joined-acyclic}
-
--- each entry of a proper content has a literal of its atoms
-entry-literal : (e : Edition) (c : Content) → Proper e c → (i : ℕ) → i < length (c .entries) → entryOf c i .literal .0 < 2 * c .atoms
-unfolding theoryFrom
-entry-literal e c p i h =
-    ltb→lt _ _ (everyOf-elim _ _ (every-elim _ _ (and-right _ _ (and-left _ _ (p .ranges))) (entryOf c i .rule) (p .users i h)) _
-    (member-map-intro (λ z. entryOf c z .literal .0) _ i
-    (member-pick-intro (upto (length (c .entries))) _ i (member-upto-intro (length (c .entries)) i h) (eqb-refl (entryOf c i .rule)))))
 
 -- rows with n more on the left rise as before
 abbrev laterRow : ℕ → Row → Row
 laterRow n w = record { left = n + w .left; right = w .right }
 
-before-later : (n a b c d : ℕ) → Before a b c d → Before (n + a) b (n + c) d
-unfolding Before
-before-later n a b c d (inl h) = inl (omega arith)
-before-later n a b c d (inr h) = inr (ap (n +_) (h .0), h .1)
-
 later-rising : (n : ℕ) (l : List Row) → Rising l → Rising (map (laterRow n) l)
 later-rising n l r i j h k =
     let v : j < length l = omega (arith, k, length-map l (laterRow n)) in
     let u : i < length l = omega arith in
-    coe 0 1 (z. Before (sym (row i u) z .left) (sym (row i u) z .right) (sym (row j v) z .left) (sym (row j v) z .right)) (before-later n _ _ _ _ (r i j h v))
+    coe 0 1 (z. RowBefore (sym (row i u) z) (sym (row j v) z)) (before-kept _ _ _ _ (λ m. omega arith) (ap (n +_)) (λ m. m) (r i j h v))
   where
     row : (i : ℕ) → i < length l → rowAt (map (laterRow n) l) i ≡ laterRow n (rowAt l i)
     row i h = at-map (laterRow n) l i _ _ h
@@ -65,8 +54,7 @@ module _ (e : Edition) (h t : Content) (p : Proper e h) (q : Proper e t) (a : h 
       (each-map (λ z. z .literal .0 < 2 * h .atoms) (laterEntry (length (h .rules))) (t .entries) _ _ (λ i k. tour-below _ (entry-literal e t q i k)))
 
   heads : (r : ℕ) → r < length (h .rules ++ t .rules) → ruleOf (joined h t) r .head .0 < 2 * h .atoms
-  unfolding theoryFrom
-  heads = each-append (λ z. z .head .0 < 2 * h .atoms) (h .rules) (t .rules) _ (heads-below (theoryFrom h) (p .ranges)) (λ r k. tour-below _ (heads-below (theoryFrom t) (q .ranges) r k))
+  heads = each-append (λ z. z .head .0 < 2 * h .atoms) (h .rules) (t .rules) _ (head-literal e h p) (λ r k. tour-below _ (head-literal e t q r k))
 
   users : (i : ℕ) → i < length (joined h t .entries) → entryOf (joined h t) i .rule < length (h .rules ++ t .rules)
   users =
@@ -84,8 +72,7 @@ module _ (e : Edition) (h t : Content) (p : Proper e h) (q : Proper e t) (a : h 
       (every-intro _ _ (λ i k. lt→ltb _ _ (member-upto (2 * h .atoms) _ (member-pick (upto (2 * h .atoms)) _ _ (member-getD (joined h t .facts) i k) .0))))
       (every-intro _ _ (λ r k. lt→ltb _ _ (heads r k))))
       (every-intro _ _ (λ r _. everyOf-intro _ _ (λ x u.
-      let (i, v, f) = member-map (λ i. entryOf (joined h t) i .literal .0) _ x u in
-      lt→ltb x (2 * h .atoms) (subst (λ z. z < 2 * h .atoms) (sym f) (literals i (member-upto _ i (member-pick (upto (length (joined h t .entries))) _ i v .0)))))))
+      let (i, v, _, f) = body-place (joined h t) r x .0 u in lt→ltb x (2 * h .atoms) (subst (λ z. z < 2 * h .atoms) f (literals i v)))))
       )
       (every-intro _ _ (λ i k. let (x, y) = pairs-range _ _ (over (theoryFrom h) (theoryFrom t)) i k in and-intro _ _ (lt→ltb _ _ (within x)) (lt→ltb _ _ (within y))))
     where

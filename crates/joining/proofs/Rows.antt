@@ -21,8 +21,9 @@ use Rattle.table.specs.Refusals.{Legal}
 use Rattle.table.proofs.Legal.{ranged, proper-theory}
 use Rattle.files.specs.Contents.{laterPair}
 use Rattle.files.proofs.Saying.{count-upto-map}
+use Rattle.files.proofs.Lists.{map-map}
 use Rattle.joining.specs.Joining.{added, later, over, pairsBelow}
-use Rattle.joining.proofs.Lists.{map-map, pick-split, pick-none}
+use Rattle.joining.proofs.Lists.{pick-split, pick-none}
 use Rattle.joining.proofs.Pairing.{pair, pairs-canonical}
 
 -- the weaker rule of a pair of a proper theory is one of its rules

@@ -1,6 +1,6 @@
 -- Laws of the tests of a rule's antecedents, over the tag. Assumes nothing.
 use Prim.Native.Nat.{ℕ}
-use mathlib.Core.Path.{_≡_, sym, subst}
+use mathlib.Core.Path.{_≡_, refl, sym, subst}
 use mathlib.Core.Bool.{Bool}
 use lib.Dec.{T}
 use Rattle.logic.specs.Tests.{isnt, member, empty}
@@ -9,15 +9,26 @@ use Rattle.logic.specs.Inference.{allHave, oneHas}
 use Rattle.logic.proofs.Tests.{everyOf-intro, everyOf-elim, someOf-intro, someOf-elim, test-eq}
 use Rattle.logic.proofs.Lists.{filled-elim}
 
-module _ (d : Theory) (h k : ℕ → ℕ → Bool) (t r : ℕ) where
-  -- what a rule's antecedents have for one test they have for another that has it for each of them
-  pub all-moves : ((a : ℕ) → T (member a (bodyOf d r)) → T (h a t) → T (k a t)) → T (allHave d h t r) → T (allHave d k t r)
+-- what the antecedents of one rule have for one test, those of another have for another: the rules have the same antecedents, and what the one
+-- test has of them the other has
+module _ (d k : Theory) (h g : ℕ → ℕ → Bool) (t r s : ℕ) (e : (a : ℕ) → member a (bodyOf d r) ≡ member a (bodyOf k s))
+    (f : (a : ℕ) → T (member a (bodyOf d r)) → T (h a t) → T (g a t)) where
+  pub all-across : T (allHave d h t r) → T (allHave k g t s)
   unfolding allHave
-  all-moves f u = everyOf-intro (bodyOf d r) (λ a. k a t) (λ a m. f a m (everyOf-elim (bodyOf d r) (λ b. h b t) u a m))
+  all-across u =
+      everyOf-intro (bodyOf k s) (λ a. g a t) (λ a m. let l = subst T (sym (e a)) m in f a l (everyOf-elim (bodyOf d r) (λ b. h b t) u a l))
+
+  pub one-across : T (oneHas d h t r) → T (oneHas k g t s)
+  unfolding oneHas
+  one-across u = let (a, m, v) = someOf-elim (bodyOf d r) (λ b. h b t) u in someOf-intro (bodyOf k s) (λ b. g b t) a (subst T (e a) m) (f a m v)
+
+-- of one rule
+module _ (d : Theory) (h k : ℕ → ℕ → Bool) (t r : ℕ) where
+  pub all-moves : ((a : ℕ) → T (member a (bodyOf d r)) → T (h a t) → T (k a t)) → T (allHave d h t r) → T (allHave d k t r)
+  all-moves = all-across d d h k t r r (λ _. refl)
 
   pub one-moves : ((a : ℕ) → T (member a (bodyOf d r)) → T (h a t) → T (k a t)) → T (oneHas d h t r) → T (oneHas d k t r)
-  unfolding oneHas
-  one-moves f u = let (a, m, v) = someOf-elim (bodyOf d r) (λ b. h b t) u in someOf-intro (bodyOf d r) (λ b. k b t) a m (f a m v)
+  one-moves = one-across d d h k t r r (λ _. refl)
 
 -- two tests that agree on a rule's antecedents
 module _ (d : Theory) (h k : ℕ → ℕ → Bool) (t r : ℕ) (e : (a : ℕ) → T (member a (bodyOf d r)) → h a t ≡ k a t) where

@@ -163,6 +163,12 @@ module _ (s : System) (w : Lawful s) where
       closed : (y : ℕ) → y < s .conclusions → T (s .infers (held (logOf (started budget))) y) → T (held (logOf (started budget)) y)
       closed y b u = started-sound budget .closed y b (subst (λ k. T (s .infers (held k) y)) whole u)
 
+  -- a finished run's log holds exactly what is derivable
+  pub run-exact : (budget : ℕ) → T (run s budget .finished) → (x : ℕ) → T (member x (logOf (run s budget))) ↔ Derivable s x
+  unfolding started
+  run-exact budget =
+      run-cases s (λ o. T (o .finished) → (x : ℕ) → T (member x (logOf o)) ↔ Derivable s x) budget (λ _. started-exact budget) (λ _ t. absurd t)
+
 -- A weight of what is held: each cost is its growth, and it never exceeds what `most` leaves past the start.
 pub record Weighed (s : System) (most : ℕ) : Type 0 where
   pub weight : (ℕ → Bool) → ℕ
@@ -220,7 +226,7 @@ module _ (s : System) (w : Lawful s) (most : ℕ) (g : Weighed s most) where
       record {
         isDerivation = run-derives s w budget;
         once = run-cases s (λ o. T (distinct (logOf o))) budget (λ _. started-sound s w budget .once) (λ _. tt);
-        exact = run-cases s (λ o. T (o .finished) → (x : ℕ) → T (member x (logOf o)) ↔ Derivable s x) budget (λ _. started-exact s w budget) (λ _ t. absurd t);
+        exact = run-exact s w budget;
         finishes = run-cases s (λ o. T (o .finished) ↔ ((s .start ≤ budget) × (o .pending ≡ []))) budget
             (λ h. (λ t. (h, empty-nil _ (subst T (same budget) t)), λ p. subst T (sym (same budget)) (nil-empty _ (p .1))))
             (λ h. (λ t. absurd t, λ p. absurd (not-le-of-lt h (p .0))));

@@ -1,14 +1,15 @@
 -- What is tried after a conclusion: its candidates, each with every tag. Assumes nothing.
 use Prim.Native.Nat.{ℕ, _+_, _*_, _<_}
-use mathlib.Core.Path.{_≡_, sym, _∙_, ap, subst}
-use mathlib.Core.Logic.{_⊎_, ⊎-elim}
+use native.Mathlib.Omega.{arith}
+use mathlib.Core.Path.{_≡_, refl, sym, _∙_, ap, subst}
+use mathlib.Core.Logic.{_⊎_, inl, inr, ⊎-elim}
 use mathlib.Core.List.{List, [], _∷_, _++_, map}
 use lib.Dec.{T}
 use Rattle.logic.specs.Tests.{_and_, _or_, member, upto}
 use Rattle.logic.specs.Theory.{Theory, complement, headOf}
 use Rattle.logic.specs.Reading.{conclusion, visits, visited, heads, candidates, withTags}
 use Rattle.logic.proofs.Lists.{member-nil, member-here, member-there, member-cons-elim, member-left, member-right, member-append, member-pick, member-pick-intro, member-upto, member-upto-intro, member-map, member-map-intro}
-use Rattle.logic.proofs.Literals.{complement-complement, complement-below}
+use Rattle.logic.proofs.Literals.{complement-complement}
 
 -- the conclusions about a list of literals: each with every tag
 pub member-withTags-intro : (n : ℕ) (qs : List ℕ) (q t : ℕ) → T (member q qs) → t < n → T (member (conclusion n q t) (withTags n qs))
@@ -59,21 +60,29 @@ module _ (d : Theory) where
       member-there q a _ (member-there q (complement a) _
       (member-heads-intro (visited d f a) r (member-pick-intro (upto (d .rules)) (visits d f a) r (member-upto-intro (d .rules) r h) v) q e))
 
-  heads-below : (b : ℕ) → ((r : ℕ) → r < d .rules → headOf d r < 2 * b) → (rs : List ℕ) → ((r : ℕ) → T (member r rs) → r < d .rules) → (q : ℕ)
-      → T (member q (heads d rs)) → q < 2 * b
+  -- and of no other: that literal, or the head of that rule, is the literal or its complement
+  member-heads : (rs : List ℕ) (q : ℕ) → T (member q (heads d rs)) → (r : ℕ) × T (member r rs) × ((headOf d r ≡ q) ⊎ (headOf d r ≡ complement q))
   unfolding heads
-  heads-below b f [] g q m = absurd (member-nil q m)
-  heads-below b f (r ∷ rs) g q m =
-      let k : headOf d r < 2 * b = f r (g r (member-here r rs)) in
-      ⊎-elim (λ e. subst (λ z. z < 2 * b) (sym e) k)
-      (λ u. ⊎-elim (λ e. subst (λ z. z < 2 * b) (sym e) (complement-below (headOf d r) b k))
-      (heads-below b f rs (λ s v. g s (member-there s r rs v)) q) (member-cons-elim q (complement (headOf d r)) (heads d rs) u))
+  member-heads [] q m = absurd (member-nil q m)
+  member-heads (r ∷ rs) q m =
+      ⊎-elim (λ e. (r, member-here r rs, inl (sym e)))
+      (λ u. ⊎-elim (λ e. (r, member-here r rs, inr (omega arith))) (λ v. let (s, w, e) = member-heads rs q v in (s, member-there s r rs w, e))
+      (member-cons-elim q (complement (headOf d r)) (heads d rs) u))
       (member-cons-elim q (headOf d r) _ m)
+
+  pub candidate-cases : (f p q : ℕ) → T (member q (candidates d f p))
+      → (x : ℕ) × ((x ≡ q) ⊎ (x ≡ complement q)) × ((x ≡ p) ⊎ ((r : ℕ) × (r < d .rules) × T (visits d f p r) × (x ≡ headOf d r)))
+  candidate-cases f p q m =
+      ⊎-elim (λ e. (p, inl (sym e), inl refl))
+      (λ u. ⊎-elim (λ e. (p, inr (omega arith), inl refl))
+      (λ v. let (r, w, e) = member-heads (visited d f p) q v in
+      let (z, y) = member-pick (upto (d .rules)) (visits d f p) r w in
+      (headOf d r, e, inr (r, member-upto (d .rules) r z, y, refl)))
+      (member-cons-elim q (complement p) (heads d (visited d f p)) u))
+      (member-cons-elim q p _ m)
 
   pub candidates-below : (b : ℕ) → ((r : ℕ) → r < d .rules → headOf d r < 2 * b) → (f p q : ℕ) → p < 2 * b → T (member q (candidates d f p)) → q < 2 * b
   candidates-below b g f p q h m =
-      ⊎-elim (λ e. subst (λ z. z < 2 * b) (sym e) h)
-      (λ u. ⊎-elim (λ e. subst (λ z. z < 2 * b) (sym e) (complement-below p b h))
-      (heads-below b g (visited d f p) (λ r v. member-upto (d .rules) r (member-pick (upto (d .rules)) (visits d f p) r v .0)) q)
-      (member-cons-elim q (complement p) (heads d (visited d f p)) u))
-      (member-cons-elim q p _ m)
+      let (x, e, y) = candidate-cases f p q m in
+      let k : x < 2 * b = ⊎-elim (λ i. subst (λ z. z < 2 * b) (sym i) h) (λ (r, l, _, i). subst (λ z. z < 2 * b) (sym i) (g r l)) y in
+      ⊎-elim (λ i. omega arith) (λ i. omega arith) e

@@ -12,6 +12,7 @@ use Rattle.logic.specs.Tests.{_and_, _or_, isnt, someOf, member, empty, 
 use Rattle.logic.specs.Theory.{Theory, bodyOf, entries, size}
 use Rattle.logic.specs.System.{held, Coherent}
 use Rattle.logic.specs.Reading.{Reading, familyOf, conclusion, visits, visited, decided, decides, names, naming, costOf, taggedBy, systemOf}
+use Rattle.logic.specs.Laws.{Rules}
 use Rattle.logic.proofs.Tests.{test-cases, test-eq, and-left, and-right, or-left, or-right, or-elim, eq→eqb}
 use Rattle.logic.proofs.Lists.{member-nil, member-left, member-snoc, member-last, distinct-apart}
 use Rattle.logic.proofs.Sums.{total-ext, total-le, total-add, total-const, total-zero, total-swap, total-grid, total-point, weigh-true, weigh-false, weigh-le, weigh-imply, count-upto}
@@ -19,7 +20,7 @@ use Rattle.logic.proofs.Derivations.{Lawful, derives-all-below}
 use Rattle.logic.proofs.Budgets.{Weighed}
 use Rattle.logic.proofs.Pigeon.{count-one}
 use Rattle.logic.proofs.Coherence.{derivation-coherent, coherent-total}
-use Rattle.logic.proofs.Readings.{Rules, system-opposed}
+use Rattle.logic.proofs.Readings.{system-opposed}
 use Rattle.logic.proofs.Bodies.{all-moves, one-moves, all-nothing, one-nothing}
 use Rattle.logic.proofs.Literals.{join-div, join-mod, literal-half, tag-half, family-half}
 

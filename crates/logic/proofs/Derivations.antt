@@ -1,6 +1,6 @@
 -- Derivations of any closure system. Assumes nothing.
 use Prim.Native.Nat.{ℕ, _≤_, _<_}
-use mathlib.Core.Path.{_≡_, sym, subst}
+use mathlib.Core.Path.{sym, subst}
 use mathlib.Core.Logic.{_⊎_, ⊎-elim}
 use mathlib.Core.Bool.{Bool}
 use mathlib.Core.List.{List, [], _∷_, _++_}
@@ -89,12 +89,3 @@ module _ (s : System) where
       (subst (λ z. T (s .infers (held e) z)) (sym i) (derives-infers e y l t)))
       (λ u. subst (λ k. T (s .infers (held k) x)) (snoc-append e y l) (derives-infers-all w (e ++ (y ∷ [])) l (derives-later e y l t) x u))
       (member-cons-elim x y l m)
-
--- what one system infers another infers too: the derivations of the one are the other's
-pub derives-alike : (s z : System) → s .conclusions ≡ z .conclusions → ((h : ℕ → Bool) (x : ℕ) → T (s .infers h x) → T (z .infers h x)) → (e l : List ℕ)
-    → T (derivesFrom s e l) → T (derivesFrom z e l)
-unfolding derivesFrom
-derives-alike s z c f e [] t = tt
-derives-alike s z c f e (x ∷ l) t =
-    derives-next z e x l (subst (λ n. x < n) c (derives-below s e x l t)) (f (held e) x (derives-infers s e x l t))
-    (derives-alike s z c f (e ++ (x ∷ [])) l (derives-later s e x l t))

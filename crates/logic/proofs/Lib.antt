@@ -13,10 +13,13 @@ pub mod Budgets
 pub mod Literals
 pub mod Coherence
 pub mod Candidates
+pub mod Correspondence
 pub mod Readings
+pub mod Carrying
 pub mod Bodies
 pub mod Standing
 pub mod Verdicts
 pub mod Costs
 pub mod Plain
 pub mod Pairs
+pub mod Parts

@@ -172,6 +172,12 @@ pick-le (x ∷ l) p =
     let rest : length (pick l p) ≤ length l = pick-le l p in
     cond-cases (λ k. length k ≤ suc (length l)) (p x) (x ∷ pick l p) (pick l p) (λ _. omega arith) (λ _. omega arith)
 
+-- and takes nothing out where all pass
+pub pick-all : (l : List ℕ) (p : ℕ → Bool) → ((x : ℕ) → T (p x)) → pick l p ≡ l
+unfolding pick
+pick-all [] p a = refl
+pick-all (x ∷ l) p a = cond-true (p x) _ _ (a x) ∙ ap (x ∷_) (pick-all l p a)
+
 -- two tests of which no number passes both
 apart-step : (x : ℕ) (a b : Bool) (l k m : List ℕ) → (T a → T b → ⊥) → length l + length k ≤ length m → length (cond a (x ∷ l) l) + length (cond b (x ∷ k) k) ≤ suc (length m)
 apart-step x true true l k m n h = absurd (n tt tt)

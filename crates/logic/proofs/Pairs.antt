@@ -1,77 +1,40 @@
--- Pairs whose heads are not complementary: the plain reading infers the same with and without them. Assumes nothing.
-use Prim.Native.Nat.{ℕ, zero, suc, _+_, _-_, _/_, _%_, _≤_, _<_}
+-- Pairs whose heads are not complementary: with and without them a theory corresponds to itself, and so it has the same derivations. Assumes nothing.
+use Prim.Native.Nat.{ℕ, _+_, _-_, _≤_, _<_}
 use native.Mathlib.Omega.{arith}
-use mathlib.Core.Path.{_≡_, refl, sym, _∙_, ap, subst}
+use mathlib.Core.Path.{_≡_, sym, _∙_, ap, subst}
 use mathlib.Core.Logic.{_↔_, ⊎-elim}
-use mathlib.Core.Bool.{Bool}
-use mathlib.Core.List.{List, []}
+use mathlib.Core.Bool.{Bool, true}
+use mathlib.Core.List.{List}
 use lib.Arith.{lt-of-le-ne}
 use lib.Dec.{T, ltb, eqb, eqb→eq, ltb→lt, lt→ltb}
-use Rattle.logic.specs.Tests.{_and_, _or_, isnt}
-use Rattle.logic.specs.Theory.{Theory, Pair, complement, headOf, strictFor, supporter, attacker, superior}
-use Rattle.logic.specs.Inference.{−∂, allHave, oneHas, countered, defeasibly, uncountered, notDefeasibly, follows}
+use Rattle.logic.specs.Tests.{_and_}
+use Rattle.logic.specs.Theory.{Theory, Pair, complement, headOf, superior}
 use Rattle.logic.specs.System.{derivation, Derivable}
-use Rattle.logic.specs.Reading.{taggedBy, systemOf}
-use Rattle.logic.specs.Plain.{plainSystem}
+use Rattle.logic.specs.Reading.{Reading, systemOf}
+use Rattle.logic.specs.Plain.{plain, plainSystem}
 use Rattle.logic.specs.Pairs.{complementaryHeads, withPairs, withoutPair}
-use Rattle.logic.proofs.Tests.{test-eq, cond-cases, cond-true, cond-false, at-most, and-intro, and-left, and-right, or-left, or-right, or-elim, eq→eqb, implies-intro, implies-elim, every-intro, every-elim, some-intro, some-elim}
+use Rattle.logic.specs.Correspondence.{Corresponds}
+use Rattle.logic.specs.Laws.{Rules}
+use Rattle.logic.proofs.Tests.{test-eq, cond-cases, cond-true, cond-false, at-most, and-left, and-right, eq→eqb, some-intro, some-elim}
+use Rattle.logic.proofs.Lists.{pick-all}
 use Rattle.logic.proofs.Literals.{complement-complement}
-use Rattle.logic.proofs.Derivations.{derives-alike}
-use Rattle.logic.proofs.Plain.{supporter-head, attacker-head}
+use Rattle.logic.proofs.Correspondence.{itself, corresponds-pairs, corresponds-turn}
+use Rattle.logic.proofs.Carrying.{derivation-cut, system-carries}
+use Rattle.logic.proofs.Plain.{plain-rules}
 
 -- superiority agrees on rules with complementary heads
 abbrev Agrees : (d : Theory) → ℕ → (ℕ → Pair) → Type 0
 Agrees d n p = (t s : ℕ) → T (complementaryHeads d t s) → superior d t s ≡ superior (withPairs d n p) t s
 
--- a supporter and an attacker have complementary heads
-opposed-heads : (d : Theory) (q t s : ℕ) → T (supporter d t q) → T (attacker d s q) → T (complementaryHeads d t s)
-opposed-heads d q t s u v =
-    eq→eqb _ _ (supporter-head d t q u ∙ sym (complement-complement q) ∙ ap complement (sym (attacker-head d s q v)))
+-- of two rules each head is the complement of the other
+opposed-heads : (d : Theory) (t s : ℕ) → headOf d s ≡ complement (headOf d t) → T (complementaryHeads d t s)
+opposed-heads d t s e = eq→eqb _ _ (sym (complement-complement (headOf d t)) ∙ ap complement (sym e))
 
-module _ (d : Theory) (n : ℕ) (p : ℕ → Pair) (a : Agrees d n p) (h : ℕ → ℕ → Bool) (q : ℕ) where
-  same-countered : (s : ℕ) → T (attacker d s q) → T (countered d h q s) → T (countered (withPairs d n p) h q s)
-  unfolding allHave oneHas supporter
-  same-countered s v t =
-      ⊎-elim (or-left _ _)
-      (λ u. let (r, b, w) = some-elim _ _ u in
-      or-right _ _ (some-intro _ _ r b (and-intro _ _ (and-left _ _ w) (subst T (a r s (opposed-heads d q r s (and-left _ _ (and-left _ _ w)) v)) (and-right _ _ w)))))
-      (or-elim _ _ t)
-
-  same-defeasibly : T (defeasibly d h q) → T (defeasibly (withPairs d n p) h q)
-  unfolding allHave supporter attacker
-  same-defeasibly t =
-      ⊎-elim (or-left _ _)
-      (λ u. or-right _ _ (and-intro _ _ (and-left _ _ u)
-      (every-intro _ _ (λ s b. implies-intro _ _ (λ v. same-countered s v (implies-elim _ _ (every-elim _ _ (and-right _ _ u) s b) v))))))
-      (or-elim _ _ t)
-
-  same-uncountered : (s : ℕ) → T (attacker d s q) → T (uncountered d h q s) → T (uncountered (withPairs d n p) h q s)
-  unfolding allHave oneHas supporter
-  same-uncountered s v t =
-      and-intro _ _ (and-left _ _ t)
-      (every-intro _ _ (λ r b. implies-intro _ _ (λ u. subst (λ x. T (oneHas d h −∂ r or isnt x)) (a r s (opposed-heads d q r s u v))
-      (implies-elim _ _ (every-elim _ _ (and-right _ _ t) r b) u))))
-
-  same-notDefeasibly : T (notDefeasibly d h q) → T (notDefeasibly (withPairs d n p) h q)
-  unfolding oneHas supporter attacker
-  same-notDefeasibly t =
-      and-intro _ _ (and-left _ _ t)
-      (⊎-elim (or-left _ _)
-      (λ u. let (s, b, v) = some-elim _ _ u in
-      or-right _ _ (some-intro _ _ s b (and-intro _ _ (and-left _ _ v) (same-uncountered s (and-left _ _ v) (and-right _ _ v)))))
-      (or-elim _ _ (and-right _ _ t)))
-
-  same-follows : (t : ℕ) → T (follows d h q t) → T (follows (withPairs d n p) h q t)
-  unfolding follows allHave oneHas strictFor
-  same-follows zero = λ u. u
-  same-follows (suc zero) = λ u. u
-  same-follows (suc (suc zero)) = same-defeasibly
-  same-follows (suc (suc (suc t))) = same-notDefeasibly
-
--- and so it has the same derivations
-same-derivations : (d : Theory) (n : ℕ) (p : ℕ → Pair) → Agrees d n p → (l : List ℕ) → T (derivation (plainSystem d) l) → T (derivation (plainSystem (withPairs d n p)) l)
-unfolding systemOf
-same-derivations d n p a l = derives-alike (plainSystem d) (plainSystem (withPairs d n p)) refl (λ h x. same-follows d n p a (taggedBy 4 h) (x / 4) (x % 4)) [] l
+-- theories that correspond within all literals have the same derivations, in every reading
+all-derivations : (m : Reading) → Rules m → {d k : Theory} {like : ℕ → ℕ → Bool} → Corresponds d k (λ _. true) like
+    → (l : List ℕ) → T (derivation (systemOf m d) l) → T (derivation (systemOf m k) l)
+all-derivations m r {d} {k} c l t =
+    subst (λ a. T (derivation (systemOf m k) a)) (pick-all l (λ _. true) (λ _. tt)) (derivation-cut (system-carries m r c) l t)
 
 -- superiority without the i-th pair, whose heads are not complementary
 module _ (d : Theory) (i : ℕ) (b : i < d .pairs) (f : T (complementaryHeads d (d .pair i .stronger) (d .pair i .weaker)) → ⊥) where
@@ -106,12 +69,20 @@ module _ (d : Theory) (i : ℕ) (b : i < d .pairs) (f : T (complementaryHeads d 
           cond-cases (λ p. T (At p) → T (superior d t s)) (ltb j i) (d .pair j) (d .pair (j + 1))
           (λ _ w. some-intro _ _ j (omega arith) w) (λ _ w. some-intro _ _ (j + 1) (omega arith) w) v
 
-  -- Such a pair can be taken away or put in, and the derivations are the same, and so what is derivable. (The cost is not: row 13 of
-  -- specs/Cases.antt is row 9 without its pair.)
-  pub pair-same-derivations : (l : List ℕ) → T (derivation (plainSystem d) l) ↔ T (derivation (plainSystem (withoutPair d i)) l)
-  pair-same-derivations l =
-      (same-derivations d _ _ agrees l, same-derivations (withoutPair d i) (d .pairs) (d .pair) (λ t s c. sym (agrees t s c)) l)
+  -- so the theory corresponds to what it is without the pair
+  pub pair-corresponds : Corresponds d (withoutPair d i) (λ _. true) (itself d)
+  pair-corresponds = corresponds-pairs d _ _ (λ t s e. agrees t s (opposed-heads d t s e))
 
+  -- Such a pair can be taken away or put in, and the derivations are the same, in every reading, and so what is derivable. (The cost is not: row
+  -- 13 of specs/Cases.antt is row 9 without its pair.)
+  pub same-derivations : (m : Reading) → Rules m → (l : List ℕ) → T (derivation (systemOf m d) l) ↔ T (derivation (systemOf m (withoutPair d i)) l)
+  same-derivations m r l = (all-derivations m r pair-corresponds l, all-derivations m r (corresponds-turn pair-corresponds) l)
+
+  -- in the plain reading
+  pub pair-same-derivations : (l : List ℕ) → T (derivation (plainSystem d) l) ↔ T (derivation (plainSystem (withoutPair d i)) l)
+  pair-same-derivations = same-derivations plain plain-rules
+
+  -- and so what is derivable in it
   pub pair-without-effect : (x : ℕ) → Derivable (plainSystem d) x ↔ Derivable (plainSystem (withoutPair d i)) x
   pair-without-effect x =
       (λ (l, t, m). (l, pair-same-derivations l .0 t, m), λ (l, t, m). (l, pair-same-derivations l .1 t, m))

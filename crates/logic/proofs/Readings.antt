@@ -10,19 +10,12 @@ use Rattle.logic.specs.Tests.{member}
 use Rattle.logic.specs.Theory.{Theory, complement, headOf}
 use Rattle.logic.specs.System.{Coherent}
 use Rattle.logic.specs.Reading.{Reading, tags, familyOf, conclusion, candidates, taggedBy, systemOf}
+use Rattle.logic.specs.Laws.{Rules}
 use Rattle.logic.proofs.Derivations.{Lawful}
 use Rattle.logic.proofs.Coherence.{Opposed}
 use Rattle.logic.proofs.Candidates.{member-withTags, member-withTags-intro, candidates-below}
+use Rattle.logic.proofs.Correspondence.{corresponds-self}
 use Rattle.logic.proofs.Literals.{complement-half, complement-bit, join-div, join-mod, join-split, join-below, split-below, literal-half, tag-half}
-
--- What is asked of a reading. Local: what follows is monotone in, and depends on no more than, the conclusions that have the
--- literal among their candidates. Opposed: from what holds no tag beside its opposite no tag follows beside its opposite.
-pub record Rules (m : Reading) : Type 0 where
-  pub tagged : 0 < m .families
-  pub local : (d : Theory) (h k : ℕ → ℕ → Bool) (q t : ℕ)
-      → ((a u : ℕ) → u < tags m → T (member q (candidates d (familyOf u) a)) → T (h a u) → T (k a u)) → T (m .infer d h q t) → T (m .infer d k q t)
-  pub opposed : (d : Theory) (h : ℕ → ℕ → Bool) → ((q f : ℕ) → f < m .families → T (h q (2 * f)) → T (h q (2 * f + 1)) → ⊥)
-      → (q f : ℕ) → f < m .families → T (m .infer d h q (2 * f)) → T (m .infer d h q (2 * f + 1)) → ⊥
 
 -- a number below two is zero or one
 bit-cases : (b : ℕ) → b < 2 → (b ≡ 0) ⊎ (b ≡ 1)
@@ -38,7 +31,7 @@ module _ (m : Reading) (l : Rules m) (d : Theory) where
   unfolding systemOf
   system-lawful below =
       record {
-        local = λ h k x f t. l .local d (taggedBy (tags m) h) (taggedBy (tags m) k) (x / tags m) (x % tags m)
+        local = λ h k x f t. l .across (corresponds-self d) (taggedBy (tags m) h) (taggedBy (tags m) k) (x / tags m) (x % tags m) tt
             (λ a u b c. f (conclusion (tags m) a u) (tried-there x a u b c)) t;
         inside = λ x y b t. let (q, u, v, h, e) = member-withTags (tags m) _ y t in
             subst (λ z. z < tags m * (2 * d .atoms)) (sym e) (join-below (tags m) (2 * d .atoms) q u h

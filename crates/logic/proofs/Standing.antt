@@ -14,12 +14,13 @@ use Rattle.logic.specs.System.{held, Coherent, derivation}
 use Rattle.logic.specs.Worklist.{logOf, run}
 use Rattle.logic.specs.Reading.{Reading, tags, conclusion, decided, taggedBy, systemOf}
 use Rattle.logic.specs.Standing.{Standing, firing, out, waiting, firstFit, standing, NeverBoth, standingNumber}
+use Rattle.logic.specs.Laws.{Rules}
 use Rattle.logic.proofs.Lists.{member-left}
 use Rattle.logic.proofs.Theories.{heads-below}
 use Rattle.logic.proofs.Derivations.{Lawful}
 use Rattle.logic.proofs.Budgets.{run-derives}
 use Rattle.logic.proofs.Coherence.{derivation-coherent, part-coherent}
-use Rattle.logic.proofs.Readings.{Rules, system-lawful, system-opposed}
+use Rattle.logic.proofs.Readings.{system-lawful, system-opposed}
 use Rattle.logic.proofs.Bodies.{all-one}
 
 -- over what holds no conclusion beside its opposite

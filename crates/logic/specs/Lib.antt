@@ -7,6 +7,9 @@ pub mod Worklist
 pub mod Reading
 pub mod Plain
 pub mod Pairs
+pub mod Correspondence
+pub mod Laws
+pub mod Parts
 pub mod Demands
 pub mod Standing
 pub mod Verdict

@@ -1,6 +1,8 @@
-// Small functions by value. A test or a cast that goes through one leaves one fact to its caller, and no branch.
-ghost use Prim.Native.Nat.{_+_, _<_};
+// Small functions that several crates share. A test or a cast that goes by value through one leaves one fact to its caller, and no branch.
+ghost use Prim.Native.Nat.{_+_, _≤_, _<_};
 ghost use mathlib.Core.Path.{_≡_};
+ghost use mathlib.Core.List.{_++_};
+ghost use lib.ListN.{length, take, drop};
 ghost use Rattle.logic.specs.Tests.{_and_, _or_, weigh};
 
 pub fn both(a: bool, b: bool) -> bool
@@ -28,4 +30,16 @@ pub fn wide(n: u16) -> usize
     ensures { λ r. ⌜ r ≡ n ⌝ }
 {
     n as usize
+}
+
+// The first n words of one slice into another.
+pub fn copy_words(from: &[u16], n: usize, to: &mut [u16])
+    requires { ⌜ (n ≤ length (now from)) × (n ≤ length (now to)) ⌝ }
+    ensures { λ _. ⌜ now (to .exit) ≡ take n (now (from .entry)) ++ drop n (now (to .entry)) ⌝ }
+{
+    let mut i: usize = 0;
+    while i < n {
+        to[i] = from[i];
+        i += 1;
+    }
 }

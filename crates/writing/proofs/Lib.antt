@@ -1,3 +1,5 @@
 pub mod Answering
 pub mod Appending
+pub mod Filing
 pub mod Numbering
+pub mod Picking

@@ -1,10 +1,12 @@
 // The words of a table into an output: first all of the left array, then all of the right one, section after section. What does not fit
 // into the output is not written, so no function asks for room; that a place is below some millions keeps each sum from wrapping.
-ghost use Prim.Native.Nat.{_+_, _-_, _≤_};
+ghost use Prim.Native.Nat.{_+_, _-_, _*_, _≤_};
 ghost use mathlib.Core.Path.{_≡_};
+ghost use mathlib.Core.Bool.{cond};
 ghost use mathlib.Core.List.{[], _∷_};
 ghost use lib.ListN.{length, set};
 ghost use lib.Seq.{sets};
+ghost use Rattle.logic.specs.Tests.{weigh};
 ghost use Rattle.table.specs.Format.{ruleAt, entryAt, pairAt};
 ghost use Rattle.table.specs.Refusals.{Legal};
 ghost use Rattle.files.specs.Contents.{Row, kindNumber, laterEntry, laterPair, ruleRow, entryRow, pairRow, marked};
@@ -48,6 +50,29 @@ pub fn put_word(out: &mut [u8], at: usize, word: u16)
 {
     put_byte(out, at, (word % 256) as u8);
     put_byte(out, at + 1, (word / 256) as u8);
+}
+
+// A word at a place of the output, if the test says so; and the place after it.
+pub fn put_if(out: &mut [u8], at: usize, word: u16, test: bool) -> usize
+    requires { ⌜ at ≤ 8000000 ⌝ }
+    ensures { λ r. ⌜ (now (out .exit) ≡ withWords (now (out .entry)) at (cond test (word ∷ []) [])) × (r ≡ at + 2 * weigh test 1) ⌝ }
+{
+    if test {
+        put_word(out, at, word);
+        at + 2
+    } else {
+        at
+    }
+}
+
+// How many bytes stand before the layout.
+pub fn mark_bytes(edition: Edition) -> usize
+    ensures { λ r. ⌜ r ≡ length (marked edition []) ⌝ }
+{
+    match edition {
+        Edition::Old => 0,
+        Edition::Two => 1,
+    }
 }
 
 fn put_two(out: &mut [u8]) -> usize

@@ -1,5 +1,7 @@
 -- `console::fly_convert` meets its contract. Assumes nothing.
-use Rattle.console.proofs.Telling.{converted-known, converted-unknown}
+use Rattle.writing.specs.Answers.{numbersOf}
+use Rattle.convert.specs.Conversion.{Converted}
+use Rattle.console.proofs.Telling.{written-known, written-unknown}
 use borrow.Author.Needs.{needs}
 use Rattle.console.proofs.fly_convert.Statement.{statement}
 use Rattle.console.proofs.fly_convert.Tie as tie
@@ -8,14 +10,15 @@ returns : tie.Need-returns
 returns c =
     let at-convert = c .before .before .before in let at-e = at-convert .before .before .before in let at-told = at-e .before .before in
     let args = at-told .before .before .before .args in
-    converted-known (at-told .told-by .result) (args .edition) (at-told .told-by .ensures) (args .table .now) _ (at-e .e .given .1) (args .out .now) _ _ _
-    (c .numbers .ensures) (at-convert .convert .ensures)
+    written-known (at-told .told-by .result) (args .edition) (at-told .told-by .ensures) (λ e. Converted e (args .table .now) (args .out .now)) _ (args .out .now) _ _ _ _
+    (at-e .e .given .1) (c .numbers .ensures) (at-convert .convert .ensures)
 
 returns-2 : tie.Need-returns-2
+unfolding numbersOf
 returns-2 c =
     let at-match = c .before .before in let at-told = at-match .before in let args = at-told .before .before .before .args in
-    converted-unknown (at-told .told-by .result) (args .edition) (at-told .told-by .ensures) (args .table .now) (at-match .match .keys2) (args .out .now) _
-    (c .not-written .ensures)
+    written-unknown (at-told .told-by .result) (args .edition) (at-told .told-by .ensures) (λ e. Converted e (args .table .now) (args .out .now)) _ (args .out .now) _
+    (at-match .match .keys2) (c .not-written .ensures)
 
 pub fly-convert-spec : {M : Type 1} → statement M
 fly-convert-spec =

@@ -1,5 +1,7 @@
 -- `console::fly_join` meets its contract. Assumes nothing.
-use Rattle.console.proofs.Telling.{joined-known, joined-unknown}
+use Rattle.writing.specs.Answers.{numbersOf}
+use Rattle.join.specs.Calls.{Joined}
+use Rattle.console.proofs.Telling.{written-known, written-unknown}
 use borrow.Author.Needs.{needs}
 use Rattle.console.proofs.fly_join.Statement.{statement}
 use Rattle.console.proofs.fly_join.Tie as tie
@@ -8,14 +10,15 @@ returns : tie.Need-returns
 returns c =
     let at-join = c .before .before .before in let at-e = at-join .before .before .before in let at-told = at-e .before .before in
     let args = at-told .before .before .before .before .args in
-    joined-known (at-told .told-by .result) (args .edition) (at-told .told-by .ensures) (args .house .now) _ (at-e .e .given .1) (args .tour .now) (args .out .now) _ _ _
-    (c .numbers .ensures) (at-join .join .ensures)
+    written-known (at-told .told-by .result) (args .edition) (at-told .told-by .ensures) (λ e. Joined e (args .house .now) (args .tour .now) (args .out .now)) _ (args .out .now) _ _ _ _
+    (at-e .e .given .1) (c .numbers .ensures) (at-join .join .ensures)
 
 returns-2 : tie.Need-returns-2
+unfolding numbersOf
 returns-2 c =
     let at-match = c .before .before in let at-told = at-match .before in let args = at-told .before .before .before .before .args in
-    joined-unknown (at-told .told-by .result) (args .edition) (at-told .told-by .ensures) (args .house .now) (at-match .match .keys2) (args .tour .now) (args .out .now) _
-    (c .not-written .ensures)
+    written-unknown (at-told .told-by .result) (args .edition) (at-told .told-by .ensures) (λ e. Joined e (args .house .now) (args .tour .now) (args .out .now)) _ (args .out .now) _
+    (at-match .match .keys2) (c .not-written .ensures)
 
 pub fly-join-spec : {M : Type 1} → statement M
 fly-join-spec =

@@ -17,19 +17,19 @@ returns c =
     (subst (λ n. length (start .args .log .now) < n) (lines-written _ _ (paid .accepted) _ (at-run-started .run-started .ensures) _ (at-numbers .numbers .ensures)) (at-if1 .if1 .taken)))
     (at-refuse .refuse .ensures)
 
-copy-lines-requires : tie.Need-copy-lines-requires
-copy-lines-requires c κs =
+copy-words-requires : tie.Need-copy-words-requires
+copy-words-requires c κs =
     let at-if1 = c .before .before in let at-numbers = at-if1 .before .before in let at-run-started = at-numbers .before .before .before .before .before in
     let start = at-run-started .before .before .before .before .before .before .before .before in let paid = start .pre .0 in
     (lines-inside _ _ (paid .accepted) _ (at-run-started .run-started .ensures) _ (at-numbers .numbers .ensures), at-if1 .if1 .left)
 
 returns-2 : tie.Need-returns-2
 returns-2 c =
-    let at-clear = c .before .before in let at-copy-lines = at-clear .before .before .before .before in let at-if1 = at-copy-lines .before .before .before in let at-numbers = at-if1 .before .before in
+    let at-clear = c .before .before in let at-copy-words = at-clear .before .before .before .before in let at-if1 = at-copy-words .before .before .before in let at-numbers = at-if1 .before .before in
     let at-run-started = at-numbers .before .before .before .before .before in let start = at-run-started .before .before .before .before .before .before .before .before in let paid = start .pre .0 in
     ran _ _ (paid .accepted) _ _ _ (paid .words)
     (subst (λ n. n ≤ length (start .args .log .now)) (lines-written _ _ (paid .accepted) _ (at-run-started .run-started .ensures) _ (at-numbers .numbers .ensures)) (at-if1 .if1 .left))
-    _ _ _ _ (worked-copied _ _ (paid .accepted) _ (at-run-started .run-started .ensures) _ (at-numbers .numbers .ensures) _ _ _ (at-copy-lines .copy-lines .ensures))
+    _ _ _ _ (worked-copied _ _ (paid .accepted) _ (at-run-started .run-started .ensures) _ (at-numbers .numbers .ensures) _ _ _ (at-copy-words .copy-words .ensures))
     (at-clear .clear .ensures)
 
 pub run-copied-spec : {M : Type 1} → statement M
@@ -37,5 +37,5 @@ run-copied-spec =
     tie.close
     (tie.spec
     (λ c κs. search needs) (λ c κs. search needs) (λ c. search needs) (λ c κs. search needs) (λ c. search needs) (λ c. search needs)
-    (λ c. search needs) (λ c. search needs) returns copy-lines-requires (λ c κs. search needs) (λ c. search needs)
+    (λ c. search needs) (λ c. search needs) returns copy-words-requires (λ c κs. search needs) (λ c. search needs)
     (λ c. search needs) (λ c. search needs) (λ c. search needs) returns-2)

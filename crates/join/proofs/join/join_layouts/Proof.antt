@@ -2,8 +2,8 @@
 use native.Mathlib.Omega.{arith}
 use Rattle.files.specs.Contents.{contentIn}
 use Rattle.joining.specs.Joining.{joined}
-use Rattle.join.proofs.Filing.{mark-small, span-small}
-use Rattle.join.proofs.Calling.{too-many, few-enough, sized, file-bytes, atoms-differ, sizes-large, output-short, file-whole}
+use Rattle.writing.proofs.Filing.{mark-small, span-small, file-bytes}
+use Rattle.join.proofs.Calling.{too-many, few-enough, sized, atoms-differ, sizes-large, output-short, file-whole}
 use borrow.Author.Needs.{needs}
 use Rattle.join.proofs.join.join_layouts.Statement.{statement}
 use Rattle.join.proofs.join.join_layouts.Tie as tie

@@ -3,7 +3,7 @@ use native.Mathlib.Omega.{arith}
 use mathlib.Core.Path.{ap}
 use Rattle.files.specs.Contents.{contentIn}
 use Rattle.joining.specs.Joining.{joined}
-use Rattle.join.proofs.Filing.{mark-small, span-small, file-written}
+use Rattle.writing.proofs.Filing.{mark-small, span-small, file-written}
 use borrow.Author.Needs.{needs}
 use Rattle.join.proofs.join.write_file.Statement.{statement}
 use Rattle.join.proofs.join.write_file.Tie as tie

@@ -1,0 +1,4 @@
+pub mod Numbering
+pub mod Proper
+pub mod Corresponding
+pub mod Parted
