@@ -13,7 +13,7 @@
  * The edition. Every call but fly_sheet, which reads the old layout, is told the edition of its tables by a number, one of fly_edition. Any
  * other number is refused with FLY_TRUNCATED, whatever the tables are. What is concluded and what it costs do not depend on the edition, nor
  * on the origins. fly_convert writes a table in the other edition; fly_join reads two tables of one edition, and writes a third in it; fly_part
- * writes in the edition that it reads.
+ * writes a table in the edition of the one that it reads.
  *
  * A line. The number 4q + tag: tag FLY_TAG(line) of literal FLY_LITERAL(line). Literal 2a says that atom a holds, literal 2a + 1 that it
  * does not: FLY_ATOM(line) is a, and FLY_OPPOSITE(line) is 1 where the line is about "it does not hold". The tags are in fly_tag.
@@ -34,9 +34,9 @@
  * nothing. Over the lines of a run no rule has +∂ for all its antecedents and −∂ for one; over words that give it both, firing comes
  * first. A call takes time in proportion to table and log.
  *
- * Parts. Two atoms belong to one part if one rule names both, as its head's atom or an antecedent's, and so on through chains of rules. An atom
- * that no rule names is a part of its own. Facts and pairs join nothing. fly_parts says for each atom which part is its own; fly_part writes one
- * part's table, of which a run that finishes gives the part's literals the tags that a run of the whole gives them that finishes.
+ * Parts. Two atoms belong to one part if one rule names both, as the atom of its head or of an antecedent, and so on through chains of rules. An
+ * atom that no rule names is a part of its own; facts and pairs tie no atoms together. fly_parts says for each atom to which part it belongs;
+ * fly_part writes the table of one part, which can be run alone: if both runs finish, the part's atoms get the tags that the whole table gives them.
  *
  * What a caller owes. Pointers are not NULL, even where a length is 0; each buffer has the length that is passed; buffers overlap neither
  * each other nor a table. Nothing else: what is wrong with a table or with a length is answered by a number (fly_refusal).
@@ -188,19 +188,21 @@ fly_written fly_convert(const uint8_t *table, size_t table_len, uint32_t edition
 fly_written fly_join(const uint8_t *house, size_t house_len, const uint8_t *tour, size_t tour_len, uint32_t edition, uint8_t *out,
                      size_t out_len);
 
-/* Lists the parts of a table: word a of the list becomes the smallest atom of the part of atom a, so that two atoms belong to one part if their
- * words are equal. Returns 0, or the number of the refusal; then the list is as it was. A table that is refused is refused as by a run, and then
- * a list of fewer than A words with FLY_SHORT_LOG. Words of the list past the first A are as they were. A call takes time nearly in proportion to
- * the table, however the atoms are numbered. */
+/* Lists the parts of a table: word a of the list becomes the smallest atom of the part of atom a, so that two atoms belong to one part exactly if
+ * their words are equal. Returns 0, or the number of the refusal; then the list is as it was. A table that is refused is refused as by a run, and
+ * then a list of fewer than A words with FLY_SHORT_LOG. Words of the list past the first A are as they were. A call takes time nearly in
+ * proportion to the table, however the atoms are numbered (docs/PERFORMANCE.md). */
 uint32_t fly_parts(const uint8_t *table, size_t table_len, uint32_t edition, uint16_t *list, size_t list_len);
 
-/* Writes the table of one part, that of the atom named, in the same edition. It has the same A, and atoms keep their numbers; the part's facts;
- * its rules in their order, numbered from 0, with their antecedents, kinds and origins; and the pairs of which both rules are the part's. It is
- * never refused by 1 to 7 in its edition. In a run of it that finishes, each literal of the part's atoms has the tags that it has in a run of the
- * whole table that finishes. What a run spends is not the same.
+/* Writes the table of the part to which an atom belongs, in the same edition; each atom of a part gives the same table. It has the same A, and
+ * atoms keep their numbers; the facts of the part's atoms; the rules whose heads are of the part, in their order and numbered anew from 0, with
+ * their antecedents, kinds and origins; and the pairs of two such rules. It is never longer than the whole table, and never refused by 1 to 7 in
+ * its edition. In a run of it that finishes, each literal of the part's atoms has just the tags that it has in a run of the whole table that
+ * finishes; nothing is said of the order of the lines, nor of what is spent. The other atoms have neither facts nor rules there, so that such a
+ * run gives both their literals −Δ and −∂, which says nothing of the whole table.
  * A table that is refused is refused as by a run; then an atom that is not below A with FLY_OUT_OF_RANGE; then an output that is shorter than the
  * new table with FLY_SHORT_OUTPUT. Bytes of the output past the new table are as they were. A call takes time nearly in proportion to the whole
- * table. */
+ * table, however small the part. */
 fly_written fly_part(const uint8_t *table, size_t table_len, uint32_t edition, uint32_t atom, uint8_t *out, size_t out_len);
 
 #ifdef __cplusplus

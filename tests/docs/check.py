@@ -9,7 +9,7 @@ import sys
 
 ROOT = os.path.join(os.path.dirname(os.path.abspath(__file__)), '..', '..')
 DOCUMENTS = ['README.md', 'docs/PROOF.md', 'docs/DECISIONS.md', 'docs/FORMAT.md', 'docs/PERFORMANCE.md']
-PRINTED = ['case-1', 'house-and-tour', 'get-in-joined']
+PRINTED = ['case-1', 'house-and-tour', 'get-in-joined', 'bar-9']
 ROOTS = ['bench', 'crates', 'docs', 'examples', 'include', 'tests']
 IN_CRATES = ['src', 'specs', 'proofs', 'must-fail', 'data']
 NAME = re.compile(r'[A-Za-z+−][\w∂ΔΣ-]*')

@@ -1,11 +1,8 @@
 // The records of joins, after the house.
 use crate::difference::Difference;
-use crate::difference::LENGTH;
-use crate::difference::REFUSED;
 use crate::noise::noisy_bytes;
-use crate::records::compare_bytes;
 use crate::records::told_edition;
-use crate::stream::all;
+use crate::records::written_differs;
 use crate::stream::bytes;
 use crate::stream::bytes_over;
 use crate::stream::front;
@@ -26,12 +23,5 @@ pub fn join_differs(fd: i32, record: u32, house: &[u8]) -> Difference {
     let mut out = noisy_bytes(record);
     let wanted = bytes_over(out, fd, n);
     let answer = join(house, tour, edition, &mut out[0..k]);
-    let came = answer.numbers();
-    let d = Difference {
-        what: REFUSED,
-        place: 0,
-        came: came.refused,
-        wanted: refused,
-    };
-    compare_bytes(d.or(LENGTH, 0, came.bytes, n), all(&out), &wanted)
+    written_differs(answer, refused, n, &out, &wanted)
 }

@@ -1,14 +1,12 @@
 // The records of parts, after their table.
 use crate::difference::Difference;
-use crate::difference::LENGTH;
 use crate::difference::LIST;
 use crate::difference::REFUSED;
 use crate::noise::noisy;
 use crate::noise::noisy_bytes;
-use crate::records::compare_bytes;
 use crate::records::told_edition;
+use crate::records::written_differs;
 use crate::runs::compare_words;
-use crate::stream::all;
 use crate::stream::bytes_over;
 use crate::stream::long;
 use crate::stream::number;
@@ -43,12 +41,5 @@ pub fn part_differs(fd: i32, record: u32, table: &[u8]) -> Difference {
     let mut out = noisy_bytes(record);
     let wanted = bytes_over(out, fd, n);
     let answer = part(table, edition, atom, &mut out[0..k]);
-    let came = answer.numbers();
-    let d = Difference {
-        what: REFUSED,
-        place: 0,
-        came: came.refused,
-        wanted: refused,
-    };
-    compare_bytes(d.or(LENGTH, 0, came.bytes, n), all(&out), &wanted)
+    written_differs(answer, refused, n, &out, &wanted)
 }

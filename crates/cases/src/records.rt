@@ -17,6 +17,7 @@ use convert::convert::convert;
 use report::sheet::sheet_of;
 use table::body::body;
 use table::edition::Edition;
+use writing::answer::Written;
 
 // base.bin: u32 budget, u16 answer (0 finished, 255 stopped, else the number of a refusal), u16 lines, u16 worked, u32 spent, `lines`
 // words of log. The buffers are long enough.
@@ -75,7 +76,7 @@ fn byte_of(bytes: &[u8], i: usize) -> u8 {
 }
 
 // Each byte, 0 past the end.
-pub fn compare_bytes(d: Difference, came: &[u8], wanted: &[u8; 65536]) -> Difference {
+fn compare_bytes(d: Difference, came: &[u8], wanted: &[u8; 65536]) -> Difference {
     let mut d = d;
     let mut i: usize = 0;
     while i < 65536 {
@@ -114,6 +115,24 @@ pub fn sheet_differs(fd: i32, table: &[u8]) -> Difference {
     text_differs(&came, sheet.length, &text, n)
 }
 
+// What a call answers that writes a table, and the whole output.
+pub fn written_differs(
+    answer: Written,
+    refused: u32,
+    n: u32,
+    out: &[u8; 65536],
+    wanted: &[u8; 65536],
+) -> Difference {
+    let came = answer.numbers();
+    let d = Difference {
+        what: REFUSED,
+        place: 0,
+        came: came.refused,
+        wanted: refused,
+    };
+    compare_bytes(d.or(LENGTH, 0, came.bytes, n), all(out), wanted)
+}
+
 // editions.bin and conversions.bin: the edition, how many bytes of output are borrowed, the refusal, and the new file, past which the
 // output is as it was.
 pub fn conversion_differs(fd: i32, record: u32, table: &[u8]) -> Difference {
@@ -124,12 +143,5 @@ pub fn conversion_differs(fd: i32, record: u32, table: &[u8]) -> Difference {
     let mut out = noisy_bytes(record);
     let wanted = bytes_over(out, fd, n);
     let answer = convert(table, edition, &mut out[0..k]);
-    let came = answer.numbers();
-    let d = Difference {
-        what: REFUSED,
-        place: 0,
-        came: came.refused,
-        wanted: refused,
-    };
-    compare_bytes(d.or(LENGTH, 0, came.bytes, n), all(&out), &wanted)
+    written_differs(answer, refused, n, &out, &wanted)
 }

@@ -1,4 +1,5 @@
 pub mod Numbering
 pub mod Proper
 pub mod Corresponding
+pub mod Alike
 pub mod Parted

@@ -44,7 +44,7 @@ fn sizes_of(layout: &[u8], s: Sizes, words: &[u16], part: usize) -> Sizes
     }
 }
 
-// One array of the part's table.
+// One array of the part's table, by the new numbers of its rules.
 fn write_side(
     out: &mut [u8],
     at: usize,
@@ -53,55 +53,15 @@ fn write_side(
     s: Sizes,
     words: &[u16],
     part: usize,
-    numbers: &[u16],
+    new: &[u16],
 )
-    requires { ⌜ (at ≤ 40000) × Legal (now layout) s × Words (theoryIn (now layout) s) (now words) × (part < s .atoms) × Numbered (contentIn (now layout) s) part (now numbers) ⌝ }
+    requires { ⌜ (at ≤ 40000) × Legal (now layout) s × Words (theoryIn (now layout) s) (now words) × (part < s .atoms) × Numbered (contentIn (now layout) s) part (now new) ⌝ }
     ensures { λ _. ⌜ now (out .exit) ≡ withWords (now (out .entry)) at (map (wordIn side) (rowsOf (partOf (contentIn (now (layout .entry)) s) part))) ⌝ }
 {
-    let rules = write_kept(
-        out,
-        at,
-        side,
-        layout,
-        s,
-        words,
-        part,
-        numbers,
-        Section::Facts,
-    );
-    let entries = write_kept(
-        out,
-        rules,
-        side,
-        layout,
-        s,
-        words,
-        part,
-        numbers,
-        Section::Rules,
-    );
-    let pairs = write_kept(
-        out,
-        entries,
-        side,
-        layout,
-        s,
-        words,
-        part,
-        numbers,
-        Section::Entries,
-    );
-    write_kept(
-        out,
-        pairs,
-        side,
-        layout,
-        s,
-        words,
-        part,
-        numbers,
-        Section::Pairs,
-    );
+    let at = write_kept(out, at, side, layout, s, words, part, new, Section::Facts);
+    let at = write_kept(out, at, side, layout, s, words, part, new, Section::Rules);
+    let at = write_kept(out, at, side, layout, s, words, part, new, Section::Entries);
+    write_kept(out, at, side, layout, s, words, part, new, Section::Pairs);
 }
 
 // The part's file at the front of the output, by its sizes.

@@ -31,7 +31,7 @@ pub enum Refusal {
     Cyclic,
     // 8, scratch
     ShortScratch,
-    // 9, log; of a converter, the output
+    // 9, log; of a converter, the output; of the parts, their list
     ShortLog,
     // 10, an origin that the old layout has no place for
     HasOrigin,

@@ -1,3 +1,3 @@
-// What the calls share that write a table (convert, join): their answer, and functions that write a section.
+// What the calls share that write a table (convert, join, parts): their answer, and functions that write a section.
 pub mod answer;
 pub mod columns;
