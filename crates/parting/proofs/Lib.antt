@@ -1,5 +1,4 @@
 pub mod Numbering
 pub mod Proper
 pub mod Corresponding
-pub mod Alike
 pub mod Parted

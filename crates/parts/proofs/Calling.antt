@@ -46,9 +46,9 @@ module _ (e : Edition) (b : List ℕ) (s : Sizes) (atom : ℕ) (out : List ℕ) 
   abbrev whole : Content
   whole = partOf (contentIn b s) atom
 
-  pub atom-strange : {out′ : List ℕ} {a : Written} → s .atoms ≤ atom → (a ≡ written.Refused OutOfRange) × (out′ ≡ out) → PartedLayout e b s atom out out′ a
+  pub atom-past : {out′ : List ℕ} {a : Written} → s .atoms ≤ atom → (a ≡ written.Refused OutOfRange) × (out′ ≡ out) → PartedLayout e b s atom out out′ a
   unfolding withAtom
-  atom-strange h w = wrote-not OutOfRange _ (fileOf e whole) (simp (true-of (leb (s .atoms) atom) (le→leb _ _ h))) w
+  atom-past h w = wrote-not OutOfRange _ (fileOf e whole) (simp (true-of (leb (s .atoms) atom) (le→leb _ _ h))) w
 
   module _ (h : atom < s .atoms) where
     known : leb (s .atoms) atom ≡ false

@@ -25,7 +25,7 @@ pub apart-next : (l : List ℕ) (a i : ℕ) → i ≡ a → a < length l → ((k
 apart-next l a i e h f k g =
     set-elim (λ z v. v ≡ z) l i a k (omega arith) (sym e) (λ n. ⊎-elim (λ m. absurd (n (omega arith))) (f k) (at-most a k))
 
--- a store of an atom that is not above its place, of the same part
+-- a store of an atom that is not larger than its place, of the same part
 falling-set : (p : List ℕ) (i v : ℕ) → Falling p → i < 512 → v ≤ i → Falling (set p i v)
 falling-set p i v f h l =
     record { size = length-set p i v ∙ f .size; falls = λ z k. set-elim (λ z v. v ≤ z) p i v z (omega (arith, f .size)) l (λ _. f .falls z k) }

@@ -90,7 +90,7 @@ pub chained-all : (b : List ℕ) (s : Sizes) (i : ℕ) {p : List ℕ} → i ≤ 
 chained-all b s i {p} h l w = subst (λ n. ChainedBy b s n p) (le-antisymm h l) w
 
 module _ (b : List ℕ) (s : Sizes) where
-  -- no root is above its atom
+  -- no root is larger than its atom
   roots-le : (n z : ℕ) → rootsBy b s n z ≤ z
   unfolding rootsBy
   roots-le zero z = le-refl z

@@ -1,4 +1,4 @@
--- Atoms chained together, as an array of parents: each atom's is in its part, and none is above its atom.
+-- Atoms chained together, as an array of parents, each in the part of its atom.
 use Prim.Native.Nat.{ℕ, zero, suc, _≤_, _<_}
 use mathlib.Core.Path.{_≡_}
 use mathlib.Core.Bool.{cond}
@@ -10,6 +10,7 @@ use Rattle.logic.specs.Parts.{smallest}
 use Rattle.table.specs.declared.format.Sizes.{Sizes}
 use Rattle.table.specs.Format.{ruleAt, entryAt}
 
+-- no parent is larger than its atom
 pub record Falling (parents : List ℕ) : Type 0 where
   pub size : length parents ≡ 512
   pub falls : (a : ℕ) → a < 512 → getD parents a 0 ≤ a
@@ -24,7 +25,7 @@ pub record Rooted (f : ℕ → ℕ) (parents : List ℕ) : Type 0 where
   pub up : (a : ℕ) → a < 512 → f (getD parents a 0) ≡ f a
   pub top : (a : ℕ) → a < 512 → getD parents a 0 ≡ a → f a ≡ a
 
--- the way up from an atom ends at its root, and changes no root
+-- the way from an atom to its parent, and so on, ends at its root, and changes no root
 pub record Climbed (parents : List ℕ) (atom : ℕ) (parents′ : List ℕ) (r : ℕ) : Type 0 where
   pub falling : Falling parents′
   pub below : r < 512

@@ -11,6 +11,7 @@ use Rattle.parting.specs.Parting.{ruleIn, numberIn, factKept, entryKept, pairKe
 use Rattle.parts.specs.declared.kept.Section.{Section}
 use Rattle.parts.specs.declared.kept.Section.the-variants.{Facts, Rules, Entries, Pairs}
 
+-- how many rows a section has
 unfoldable pub sizeOf : Sizes → Section → ℕ
 sizeOf s Facts = s .facts
 sizeOf s Rules = s .rules

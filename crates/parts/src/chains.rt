@@ -1,4 +1,4 @@
-// Atoms that rules chain together. Each atom has a parent in its part that is not above it; the smallest of a part is its own.
+// Atoms that rules chain together. Each atom has a parent in its part that is not larger; the smallest of a part is its own.
 ghost use Prim.Native.Nat.{_<_};
 ghost use mathlib.Core.Path.{_≡_};
 ghost use lib.ListN.{length};
@@ -22,7 +22,8 @@ fn set_apart(parents: &mut [u16])
     }
 }
 
-// The atom above all others on the way up from one. Each atom passed has its parent's parent for its parent then, which halves the way.
+// The root of an atom, at the end of the way from parent to parent. Each atom passed has its parent's parent for its parent then, which halves
+// the way.
 fn root_of(parents: &mut [u16], atom: u16) -> u16
     requires { ⌜ Falling (now parents) × (atom < 512) ⌝ }
     ensures { λ r. ⌜ Climbed (now (parents .entry)) atom (now (parents .exit)) r ⌝ }

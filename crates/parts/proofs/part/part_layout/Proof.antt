@@ -4,7 +4,7 @@ use Rattle.files.specs.Contents.{contentIn}
 use Rattle.writing.proofs.Filing.{mark-small, span-small, file-bytes}
 use Rattle.parting.specs.Parting.{partOf}
 use Rattle.parts.proofs.Rows.{part-fits}
-use Rattle.parts.proofs.Calling.{atom-strange, output-short, file-whole}
+use Rattle.parts.proofs.Calling.{atom-past, output-short, file-whole}
 use borrow.Author.Needs.{needs}
 use Rattle.parts.proofs.part.part_layout.Statement.{statement}
 use Rattle.parts.proofs.part.part_layout.Tie as tie
@@ -12,7 +12,7 @@ use Rattle.parts.proofs.part.part_layout.Tie as tie
 returns : tie.Need-returns
 returns c =
     let args = c .before .before .before .before .before .before .before .before .args in
-    atom-strange (args .edition) (args .layout .now) (args .s) (args .atom) (args .out .now) (c .before .before .before .before .if1 .taken) (c .before .before .refuse .ensures)
+    atom-past (args .edition) (args .layout .now) (args .s) (args .atom) (args .out .now) (c .before .before .before .before .if1 .taken) (c .before .before .refuse .ensures)
 
 add-bytes : tie.Need-add-bytes
 add-bytes c = let args = c .before .before .before .before .before .before .before .before .args in record { fits = omega (arith, mark-small (args .edition) (c .mark-bytes .ensures)) }
