@@ -11,7 +11,6 @@ mod runs;
 mod stream;
 
 use difference::print_number;
-use engine::reading::Reading;
 use libc::STDOUT_FILENO;
 use table::edition::Edition;
 
@@ -24,8 +23,6 @@ pub enum Layout {
     Base,
     Runs,
     Told,
-    Searched,
-    Readings,
     Bodies,
     Readers,
     Sheets,
@@ -41,10 +38,8 @@ fn is_same(file: &[u8], layout: Layout, fd: i32, record: u32, n: u32) -> bool {
     let table = stream::front(&buffer, n);
     let d = match layout {
         Layout::Base => records::base_differs(fd, record, table),
-        Layout::Runs => records::fields_differ(fd, record, table, Edition::Old, Reading::Plain),
+        Layout::Runs => records::fields_differ(fd, record, table, Edition::Old),
         Layout::Told => records::told_differ(fd, record, table),
-        Layout::Searched => records::searched_differs(fd, record, table),
-        Layout::Readings => records::readings_differ(fd, record, table),
         Layout::Bodies => records::body_differs(fd, table),
         Layout::Readers => readers::readers_differ(fd, table),
         Layout::Sheets => records::sheet_differs(fd, table),
@@ -89,8 +84,6 @@ fn main() {
     try_file(b"made.bin", Layout::Runs, true);
     try_file(b"short-logs.bin", Layout::Runs, true);
     try_file(b"told.bin", Layout::Told, true);
-    try_file(b"well-founded.bin", Layout::Searched, true);
-    try_file(b"readings.bin", Layout::Readings, true);
     try_file(b"bodies.bin", Layout::Bodies, true);
     try_file(b"readers.bin", Layout::Readers, true);
     try_file(b"sheets-S6.bin", Layout::Sheets, true);

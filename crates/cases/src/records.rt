@@ -4,7 +4,6 @@ use crate::noise::noisy_bytes;
 use crate::runs::{Run, run_differs};
 use crate::stream::{all, bytes, bytes_over, join, long, number, word};
 use convert::convert::convert;
-use engine::reading::Reading;
 use report::sheet::sheet_of;
 use table::body::body;
 use table::edition::Edition;
@@ -18,7 +17,6 @@ pub fn base_differs(fd: i32, record: u32, table: &[u8]) -> Difference {
     let lines = word(fd) as u32;
     let want = Run {
         edition: Edition::Old,
-        reading: Reading::Plain,
         budget,
         log: 2051,
         scratch: 32773,
@@ -33,16 +31,9 @@ pub fn base_differs(fd: i32, record: u32, table: &[u8]) -> Difference {
 }
 
 // made.bin and short-logs.bin: the fields of a run, and the log.
-pub fn fields_differ(
-    fd: i32,
-    record: u32,
-    table: &[u8],
-    edition: Edition,
-    reading: Reading,
-) -> Difference {
+pub fn fields_differ(fd: i32, record: u32, table: &[u8], edition: Edition) -> Difference {
     let want = Run {
         edition,
-        reading,
         budget: number(fd),
         log: number(fd),
         scratch: number(fd),
@@ -67,40 +58,7 @@ pub fn told_edition(fd: i32) -> Edition {
 // told.bin: the edition, and the same.
 pub fn told_differ(fd: i32, record: u32, table: &[u8]) -> Difference {
     let edition = told_edition(fd);
-    fields_differ(fd, record, table, edition, Reading::Plain)
-}
-
-// A field that is the number of a reading.
-fn told_reading(fd: i32) -> Reading {
-    match number(fd) {
-        0 => Reading::Plain,
-        _ => Reading::WellFounded,
-    }
-}
-
-// readings.bin: the reading, the edition, and the same.
-pub fn readings_differ(fd: i32, record: u32, table: &[u8]) -> Difference {
-    let reading = told_reading(fd);
-    let edition = told_edition(fd);
-    fields_differ(fd, record, table, edition, reading)
-}
-
-// well-founded.bin: the budget; 1 where the run finishes, the counts, and the log. The buffers are long enough.
-pub fn searched_differs(fd: i32, record: u32, table: &[u8]) -> Difference {
-    let want = Run {
-        edition: Edition::Old,
-        reading: Reading::WellFounded,
-        budget: number(fd),
-        log: 2051,
-        scratch: 32773,
-        refused: 0,
-        finished: number(fd),
-        lines: number(fd),
-        worked: number(fd),
-        spent: number(fd),
-        words: long(fd) / 2,
-    };
-    run_differs(fd, record, table, want)
+    fields_differ(fd, record, table, edition)
 }
 
 fn byte_of(bytes: &[u8], i: usize) -> u8 {

@@ -5,17 +5,15 @@ use crate::difference::{
 use crate::noise::{noise, noisy};
 use crate::stream::word;
 use engine::answer::Numbers;
-use engine::reading::Reading;
 use engine::run::run;
 use table::edition::Edition;
 use table::judge::{Judgement, judge};
 
-// A run: the edition, the reading, the budget and how many words of log and of scratch are borrowed; what must come out, the number of the
-// refusal or 0, 1 where the run finishes, and the counts; and how many words of log follow in the file.
+// A run: the edition, the budget and how many words of log and of scratch are borrowed; what must come out, the number of the refusal or
+// 0, 1 where the run finishes, and the counts; and how many words of log follow in the file.
 #[derive(Drop)]
 pub struct Run {
     pub edition: Edition,
-    pub reading: Reading,
     pub budget: u32,
     pub log: u32,
     pub scratch: u32,
@@ -100,11 +98,9 @@ pub fn run_differs(fd: i32, record: u32, table: &[u8], want: Run) -> Difference 
     let n = (want.log % 65536) as usize;
     let k = (want.scratch % 65536) as usize;
     let edition = want.edition;
-    let reading = want.reading;
     let answer = run(
         table,
         edition,
-        reading,
         want.budget,
         &mut log[0..n],
         &mut scratch[0..k],

@@ -9,23 +9,19 @@ use Rattle.table.specs.declared.edition.Edition.TheVariants.{Old, Two}
 use Rattle.table.specs.declared.judge.Refusal.TheVariants.{Truncated}
 use Rattle.table.specs.Editions.{edition_number}
 use Rattle.table.specs.Format.{theory_of}
-use Rattle.table.specs.Refusals.{number_of, judgement_of}
-use Rattle.engine.specs.declared.reading.Reading.{Reading}
-use Rattle.engine.specs.declared.reading.Reading.TheVariants.{Plain, WellFounded}
+use Rattle.table.specs.Refusals.{judgement_of}
 use Rattle.engine.specs.declared.answer.Numbers.{Numbers}
-use Rattle.engine.specs.Readings.{reading_number}
-use Rattle.engine.specs.Answers.{refusal_numbers, Ran}
+use Rattle.engine.specs.declared.answer.Answer.TheVariants as run
+use Rattle.engine.specs.Answers as run-answers
+use Rattle.engine.specs.Answers.{Ran}
 use Rattle.standing.specs.declared.answer.StandingNumbers.{StandingNumbers}
 use Rattle.standing.specs.declared.answer.StandingAnswer.TheVariants as standing
 use Rattle.standing.specs.Answers as standing-answers
 use Rattle.standing.specs.Answers.{standing_of}
 use Rattle.console.specs.declared.told.Told.{Told}
 use Rattle.console.specs.declared.told.Told.TheVariants.{Known, Unknown}
-use Rattle.console.specs.declared.told.ReadingTold.{ReadingTold}
-use Rattle.console.specs.declared.told.ReadingTold.TheVariants as reading
-use Rattle.console.specs.Told.{told_by, reading_by, RanTold, standing_told, WritesTold}
+use Rattle.console.specs.Told.{told_by, RanTold, standing_told, WritesTold}
 use Rattle.console.specs.contracts.told.Told.{the_type}
-use Rattle.console.specs.contracts.told.ReadingTold as reading-told
 
 -- the number of an edition tells it, and every other number none
 pub told_edition : (e : Edition) → told_by (edition_number e) ≡ Known e
@@ -40,54 +36,20 @@ told_rest (suc zero) f g = absurd (f refl)
 told_rest (suc (suc zero)) f g = absurd (g refl)
 told_rest (suc (suc (suc n))) f g = refl
 
--- the number of a reading tells it, and every other number none
-pub told_reading : (m : Reading) → reading_by (reading_number m) ≡ reading.Known m
-unfolding reading_by reading_number
-told_reading Plain = refl
-told_reading WellFounded = refl
-
-pub reading_rest : (n : ℕ) → (n ≡ 0 → ⊥) → (n ≡ 1 → ⊥) → reading.Unknown ≡ reading_by n
-unfolding reading_by
-reading_rest zero f g = absurd (f refl)
-reading_rest (suc zero) f g = absurd (g refl)
-reading_rest (suc (suc n)) f g = refl
-
 -- by the tag that a match looks at
 found_unknown : (t : Told) → Declared.tag_of the_type t ≡ 1 → t ≡ Unknown
 found_unknown (Known e) f = absurd (eqb-false 0 1 refl f)
 found_unknown Unknown f = refl
 
-found_unread : (u : ReadingTold) → Declared.tag_of reading-told.the_type u ≡ 1 → u ≡ reading.Unknown
-found_unread (reading.Known m) f = absurd (eqb-false 0 1 refl f)
-found_unread reading.Unknown f = refl
-
--- a run
-module _ (t : Told) (n : ℕ) (told : t ≡ told_by n) (b : List ℕ) (budget : ℕ) where
-  module _ (e : Edition) (known : t ≡ Known e) (u : ReadingTold) (k : ℕ) (read : u ≡ reading_by k) where
-    pub ran_known : (m : Reading) → u ≡ reading.Known m → (log log' scratch scratch' : List ℕ) (x y : Numbers) → y ≡ x
-        → Ran m (judgement_of e b) (theory_of e b) budget log log' scratch scratch' x → RanTold (told_by n) (reading_by k) b budget log log' scratch scratch' y
-    unfolding RanTold
-    ran_known m found log log' scratch scratch' x y f r =
-        subst (λ z. RanTold z (reading_by k) b budget log log' scratch scratch' y) (sym known ∙ told)
-        (subst (λ z. RanTold (Known e) z b budget log log' scratch scratch' y) (sym found ∙ read)
-        (subst (Ran m (judgement_of e b) (theory_of e b) budget log log' scratch scratch') (sym f) r))
-
-    pub ran_unread : Declared.tag_of reading-told.the_type u ≡ 1 → (log scratch : List ℕ) (y : Numbers) → y ≡ refusal_numbers (number_of Truncated)
-        → RanTold (told_by n) (reading_by k) b budget log log scratch scratch y
-    unfolding RanTold
-    ran_unread tag log scratch y f =
-        subst (λ z. RanTold z (reading_by k) b budget log log scratch scratch y) (sym known ∙ told)
-        (subst (λ z. RanTold (Known e) z b budget log log scratch scratch y) (sym (found_unread u tag) ∙ read) (f, refl, refl))
-
-  pub ran_unknown : Declared.tag_of the_type t ≡ 1 → (k : ℕ) (log scratch : List ℕ) (y : Numbers) → y ≡ refusal_numbers (number_of Truncated)
-      → RanTold (told_by n) (reading_by k) b budget log log scratch scratch y
-  unfolding RanTold
-  ran_unknown tag k log scratch y f =
-      subst (λ z. RanTold z (reading_by k) b budget log log scratch scratch y) (sym (found_unknown t tag) ∙ told) (f, refl, refl)
-
--- how a rule stands
 module _ (t : Told) (n : ℕ) (told : t ≡ told_by n) (b : List ℕ) where
   module _ (e : Edition) (known : t ≡ Known e) where
+    pub ran_known : (budget : ℕ) (log log' scratch scratch' : List ℕ) (m k : Numbers) → k ≡ m → Ran (judgement_of e b) (theory_of e b) budget log log' scratch scratch' m
+        → RanTold (told_by n) b budget log log' scratch scratch' k
+    unfolding RanTold
+    ran_known budget log log' scratch scratch' m k f r =
+        subst (λ z. RanTold z b budget log log' scratch scratch' k) (sym known ∙ told)
+        (subst (Ran (judgement_of e b) (theory_of e b) budget log log' scratch scratch') (sym f) r)
+
     pub stands_known : (r : ℕ) (log : List ℕ) (m k : StandingNumbers) → k ≡ m → m ≡ standing_of e b r log → k ≡ standing_told (told_by n) b r log
     unfolding standing_told
     stands_known r log m k f g = f ∙ g ∙ ap (λ z. standing_told z b r log) (sym known ∙ told)
@@ -95,6 +57,10 @@ module _ (t : Told) (n : ℕ) (told : t ≡ told_by n) (b : List ℕ) where
   module _ (tag : Declared.tag_of the_type t ≡ 1) where
     none : Unknown ≡ told_by n
     none = sym (found_unknown t tag) ∙ told
+
+    pub ran_unknown : (budget : ℕ) (log scratch : List ℕ) (k : Numbers) → k ≡ run-answers.numbers_of (run.Refused Truncated) → RanTold (told_by n) b budget log log scratch scratch k
+    unfolding RanTold run-answers.numbers_of
+    ran_unknown budget log scratch k f = subst (λ z. RanTold z b budget log log scratch scratch k) none (f, refl, refl)
 
     pub stands_unknown : (r : ℕ) (log : List ℕ) (k : StandingNumbers) → k ≡ standing-answers.numbers_of (standing.Refused Truncated) → k ≡ standing_told (told_by n) b r log
     unfolding standing_told standing-answers.numbers_of

@@ -1,12 +1,11 @@
 -- Document 02, S-5: "each call is told the edition of each of its tables". In C it is told by its number, and what each call hands over is
--- that of the edition. Any other number is refused by 1, whatever the table, and writes nothing. A run is told its reading (S-9) likewise.
+-- that of the edition. Any other number is refused by 1, whatever the table, and writes nothing.
 use Rattle.std.specs.Prelude.{ℕ, zero, suc, ◌≡◌, List}
 use Rattle.table.specs.declared.edition.Edition.{Edition}
 use Rattle.table.specs.declared.edition.Edition.TheVariants.{Old, Two}
 use Rattle.table.specs.declared.judge.Refusal.TheVariants.{Truncated}
 use Rattle.table.specs.Format.{theory_of}
 use Rattle.table.specs.Refusals.{number_of, judgement_of}
-use Rattle.engine.specs.declared.reading.Reading.TheVariants.{Plain, WellFounded}
 use Rattle.engine.specs.declared.answer.Numbers.{Numbers}
 use Rattle.engine.specs.Answers as run
 use Rattle.engine.specs.Answers.{Ran}
@@ -20,8 +19,6 @@ use Rattle.join.specs.Calls.{Joined}
 use Rattle.parts.specs.Calls.{Listed, Parted}
 use Rattle.console.specs.declared.told.Told.{Told}
 use Rattle.console.specs.declared.told.Told.TheVariants.{Known, Unknown}
-use Rattle.console.specs.declared.told.ReadingTold.{ReadingTold}
-use Rattle.console.specs.declared.told.ReadingTold.TheVariants as reading
 
 -- 1 the old layout, 2 edition two (proofs/Telling.antt: `told_edition`)
 unfoldable pub told_by : ℕ → Told
@@ -30,21 +27,10 @@ told_by (suc zero) = Known Old
 told_by (suc (suc zero)) = Known Two
 told_by (suc (suc (suc n))) = Unknown
 
--- 0 the plain reading, 1 the well-founded one (proofs/Telling.antt: `told_reading`)
-unfoldable pub reading_by : ℕ → ReadingTold
-reading_by zero = reading.Known Plain
-reading_by (suc zero) = reading.Known WellFounded
-reading_by (suc (suc n)) = reading.Unknown
-
--- no run: refused by 1, and both buffers are as they were
-abbrev pub NotRun : List ℕ → List ℕ → List ℕ → List ℕ → Numbers → Type 0
-NotRun log log' scratch scratch' n = (n ≡ run.refusal_numbers (number_of Truncated)) × (log' ≡ log) × (scratch' ≡ scratch)
-
 -- a run
-unfoldable pub RanTold : Told → ReadingTold → List ℕ → ℕ → List ℕ → List ℕ → List ℕ → List ℕ → Numbers → Type 0
-RanTold (Known e) (reading.Known m) b budget log log' scratch scratch' n = Ran m (judgement_of e b) (theory_of e b) budget log log' scratch scratch' n
-RanTold (Known e) reading.Unknown b budget log log' scratch scratch' n = NotRun log log' scratch scratch' n
-RanTold Unknown r b budget log log' scratch scratch' n = NotRun log log' scratch scratch' n
+unfoldable pub RanTold : Told → List ℕ → ℕ → List ℕ → List ℕ → List ℕ → List ℕ → Numbers → Type 0
+RanTold (Known e) b budget log log' scratch scratch' n = Ran (judgement_of e b) (theory_of e b) budget log log' scratch scratch' n
+RanTold Unknown b budget log log' scratch scratch' n = (n ≡ run.refusal_numbers (number_of Truncated)) × (log' ≡ log) × (scratch' ≡ scratch)
 
 -- how a rule stands
 unfoldable pub standing_told : Told → List ℕ → ℕ → List ℕ → StandingNumbers

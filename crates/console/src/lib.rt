@@ -1,15 +1,13 @@
 // The functions that a console written in C links (include/flyrules.h), on numbers and slices alone. Each calls one proved function in the
-// edition that it is told, and a run in the reading that it is told; the contract of that function is handed on whole.
+// edition that it is told, whose contract is handed on whole.
 mod told;
 
 ghost use Rattle.std.specs.Prelude.{◌≡◌};
 ghost use Rattle.table.specs.declared.judge.Refusal.TheVariants.{Truncated};
-ghost use Rattle.table.specs.Refusals.{number_of};
-ghost use Rattle.engine.specs.Answers.{refusal_numbers};
 ghost use Rattle.writing.specs.declared.answer.Written.TheVariants.{Refused};
 ghost use Rattle.writing.specs.Answers.{numbers_of};
 ghost use Rattle.report.specs.Sheet.{Printed};
-ghost use Rattle.console.specs.Told.{told_by, reading_by, RanTold, standing_told, ConvertedTold, JoinedTold, PartedTold, ListedTold};
+ghost use Rattle.console.specs.Told.{told_by, RanTold, standing_told, ConvertedTold, JoinedTold, PartedTold, ListedTold};
 
 use convert::convert::convert;
 use engine::answer::{Answer, Numbers};
@@ -22,33 +20,22 @@ use report::sheet::sheet_of;
 use standing::answer::{StandingAnswer, StandingNumbers};
 use standing::stands::stands;
 use table::judge::Refusal;
-use told::{ReadingTold, Told, reading_by, told_by};
+use told::{Told, told_by};
 use writing::answer::{Written, WrittenNumbers};
-
-// What a run answers to a number of no edition, or of no reading.
-fn not_run() -> Numbers
-    ensures { result ≡ refusal_numbers (number_of Truncated) }
-{
-    Answer::Refused(Refusal::Truncated).numbers()
-}
 
 #[unsafe(no_mangle)]
 pub extern "C" fn fly_run(
     table: &[u8],
     edition: u32,
-    reading: u32,
     budget: u32,
     log: &mut [u16],
     scratch: &mut [u16],
 ) -> Numbers
-    ensures { RanTold (told_by edition) (reading_by reading) table.now budget log.old log.new scratch.old scratch.new result }
+    ensures { RanTold (told_by edition) table.now budget log.old log.new scratch.old scratch.new result }
 {
     match told_by(edition) {
-        Told::Known(e) => match reading_by(reading) {
-            ReadingTold::Known(m) => run(table, e, m, budget, log, scratch).numbers(),
-            ReadingTold::Unknown => not_run(),
-        },
-        Told::Unknown => not_run(),
+        Told::Known(e) => run(table, e, budget, log, scratch).numbers(),
+        Told::Unknown => Answer::Refused(Refusal::Truncated).numbers(),
     }
 }
 

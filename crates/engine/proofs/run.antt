@@ -5,5 +5,4 @@ pub mod Opening
 pub mod Tallies
 pub mod Machine
 pub mod Worklist
-pub mod Rounds
 pub mod Answering

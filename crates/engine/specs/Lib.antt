@@ -1,4 +1,3 @@
-pub mod Readings
 pub mod Answers
 pub mod Working
 pub mod Tallies

@@ -1,7 +1,5 @@
 // The engine: the run of a table under a budget (document 01, The rule of working, and its price).
 pub mod answer;
-pub mod reading;
-mod rounds;
 pub mod run;
 mod tally;
 mod tries;

@@ -1,19 +1,18 @@
-// The run of a table in a reading, under a budget, in buffers that the caller lends. What is refused writes nothing. Past the judgement a table is
-// its layout, here and in every other file of this crate: editions end in `run`.
+// The run of a table under a budget, in buffers that the caller lends. What is refused writes nothing. Past the judgement a table is its
+// layout, here and in every other file of this crate: editions end in `run`.
 ghost use Rattle.std.specs.Prelude.{◌+◌, ◌*◌, ◌≤◌, ◌≡◌, length};
+ghost use Rattle.logic.specs.Worklist.{run};
+ghost use Rattle.logic.specs.Plain.{plain_system};
 ghost use Rattle.table.specs.declared.judge.Judgement.TheVariants.{Accepted};
 ghost use Rattle.table.specs.Format.{theory_in, theory_of};
 ghost use Rattle.table.specs.Refusals.{judgement_of, Legal};
 ghost use Rattle.engine.specs.declared.answer.Answer.TheVariants.{Refused};
-ghost use Rattle.engine.specs.Readings.{run_of};
 ghost use Rattle.engine.specs.Answers.{numbers_of, Ran};
 ghost use Rattle.engine.specs.Working.{Paid, Worked};
 ghost use Rattle.memory.specs.Layout.{tag_count, memory_size};
 
 use crate::answer::{Answer, Counts};
-use crate::reading::Reading;
-use crate::rounds::work;
-use crate::work::write_initial;
+use crate::work::{work, write_initial};
 use memory::layout::MEMORY_SIZE;
 use memory::prepare::{clear, prepare};
 use table::edition::{Edition, layout};
@@ -42,25 +41,23 @@ fn refuse(why: Refusal, log: &mut [u16], scratch: &mut [u16]) -> Answer
 fn run_started(
     table: &[u8],
     s: Sizes,
-    reading: Reading,
     budget: u32,
     log: &mut [u16],
     scratch: &mut [u16],
     start: u32,
 ) -> Answer
     requires { Paid table.now s budget start scratch.old × (tag_count * s.atoms ≤ length log.old) }
-    ensures { Worked (run_of reading (theory_in table.now s) budget) scratch.old log.old scratch.new log.new result }
+    ensures { Worked (run (plain_system (theory_in table.now s)) budget) scratch.old log.old scratch.new log.new result }
 {
     prepare(table, s, scratch);
     let lines = write_initial(table, s, scratch, log);
-    work(table, s, reading, budget, scratch, log, lines, start)
+    work(table, s, budget, scratch, log, lines, start)
 }
 
 // A run in a draft, whose lines are copied: whether the log has a word for each is known at the end, and what is refused writes nothing.
 fn run_copied(
     table: &[u8],
     s: Sizes,
-    reading: Reading,
     budget: u32,
     log: &mut [u16],
     scratch: &mut [u16],
@@ -69,9 +66,9 @@ fn run_copied(
     start: u32,
 ) -> Answer
     requires { Paid table.now s budget start scratch.old × (memory_size ≤ length mem.old) × (tag_count * s.atoms ≤ length draft.old) }
-    ensures { Ran reading (Accepted s) (theory_in table.now s) budget log.old log.new scratch.old scratch.new (numbers_of result) }
+    ensures { Ran (Accepted s) (theory_in table.now s) budget log.old log.new scratch.old scratch.new (numbers_of result) }
 {
-    let answer = run_started(table, s, reading, budget, draft, mem, start);
+    let answer = run_started(table, s, budget, draft, mem, start);
     let lines = answer.numbers().lines as usize;
     if log.len() < lines {
         return refuse(Refusal::ShortLog, log, scratch);
@@ -85,20 +82,17 @@ fn run_copied(
 fn run_apart(
     table: &[u8],
     s: Sizes,
-    reading: Reading,
     budget: u32,
     log: &mut [u16],
     scratch: &mut [u16],
     start: u32,
 ) -> Answer
     requires { Paid table.now s budget start scratch.old }
-    ensures { Ran reading (Accepted s) (theory_in table.now s) budget log.old log.new scratch.old scratch.new (numbers_of result) }
+    ensures { Ran (Accepted s) (theory_in table.now s) budget log.old log.new scratch.old scratch.new (numbers_of result) }
 {
     let mut draft = [0u16; 4 * Sizes::MAX_ATOMS as usize];
     let mut mem = [0u16; SCRATCH];
-    run_copied(
-        table, s, reading, budget, log, scratch, &mut draft, &mut mem, start,
-    )
+    run_copied(table, s, budget, log, scratch, &mut draft, &mut mem, start)
 }
 
 // A run in a short log (document 02, S-2). Of a longer scratch only the words that are to be cleared are lent. For that it calls itself: the
@@ -106,40 +100,24 @@ fn run_apart(
 fn run_short(
     table: &[u8],
     s: Sizes,
-    reading: Reading,
     budget: u32,
     log: &mut [u16],
     scratch: &mut [u16],
     start: u32,
 ) -> Answer
     requires { Paid table.now s budget start scratch.old }
-    ensures { Ran reading (Accepted s) (theory_in table.now s) budget log.old log.new scratch.old scratch.new (numbers_of result) }
+    ensures { Ran (Accepted s) (theory_in table.now s) budget log.old log.new scratch.old scratch.new (numbers_of result) }
 {
     if SCRATCH < scratch.len() {
-        return run_short(
-            table,
-            s,
-            reading,
-            budget,
-            log,
-            &mut scratch[0..SCRATCH],
-            start,
-        );
+        return run_short(table, s, budget, log, &mut scratch[0..SCRATCH], start);
     }
-    run_apart(table, s, reading, budget, log, scratch, start)
+    run_apart(table, s, budget, log, scratch, start)
 }
 
 // The run of an accepted table. It leaves the scratch cleared.
-fn run_accepted(
-    table: &[u8],
-    s: Sizes,
-    reading: Reading,
-    budget: u32,
-    log: &mut [u16],
-    scratch: &mut [u16],
-) -> Answer
+fn run_accepted(table: &[u8], s: Sizes, budget: u32, log: &mut [u16], scratch: &mut [u16]) -> Answer
     requires { Legal table.now s }
-    ensures { Ran reading (Accepted s) (theory_in table.now s) budget log.old log.new scratch.old scratch.new (numbers_of result) }
+    ensures { Ran (Accepted s) (theory_in table.now s) budget log.old log.new scratch.old scratch.new (numbers_of result) }
 {
     if scratch.len() < SCRATCH {
         return refuse(Refusal::ShortScratch, log, scratch);
@@ -155,9 +133,9 @@ fn run_accepted(
     }
     // 4A words have room for every line.
     if log.len() < 4 * (s.atoms as usize) {
-        return run_short(table, s, reading, budget, log, scratch, size);
+        return run_short(table, s, budget, log, scratch, size);
     }
-    let answer = run_started(table, s, reading, budget, log, scratch, size);
+    let answer = run_started(table, s, budget, log, scratch, size);
     clear(scratch);
     answer
 }
@@ -165,18 +143,14 @@ fn run_accepted(
 pub fn run(
     table: &[u8],
     edition: Edition,
-    reading: Reading,
     budget: u32,
     log: &mut [u16],
     scratch: &mut [u16],
 ) -> Answer
-    ensures { Ran reading (judgement_of edition table.now) (theory_of edition table.now) budget log.old log.new scratch.old scratch.new (numbers_of result) }
+    ensures { Ran (judgement_of edition table.now) (theory_of edition table.now) budget log.old log.new scratch.old scratch.new (numbers_of result) }
 {
     match judge(table, edition) {
-        Judgement::Accepted(s) => {
-            let bytes = layout(table, edition);
-            run_accepted(bytes, s, reading, budget, log, scratch)
-        }
+        Judgement::Accepted(s) => run_accepted(layout(table, edition), s, budget, log, scratch),
         Judgement::Refused(n) => refuse(n, log, scratch),
     }
 }

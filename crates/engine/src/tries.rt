@@ -17,7 +17,7 @@ use memory::uses::{Uses, head_of, is_strict, user_at};
 use table::format::{Literal, Sizes};
 
 // A line at the end of the log. The number of lines is returned.
-pub fn append(log: &mut [u16], lines: u32, x: u16) -> u32
+fn append(log: &mut [u16], lines: u32, x: u16) -> u32
     requires { (lines < length log.old) × (lines < 65536) }
     ensures { (log.new ≡ set log.old lines x) × (result ≡ lines + 1) }
 {

@@ -63,17 +63,14 @@ member_more l x y =
 pub snoc_append : (l : List ℕ) (x : ℕ) (m : List ℕ) → (l ++ (x ∷ [])) ++ m ≡ l ++ (x ∷ m)
 snoc_append l x m = append_assoc l (x ∷ []) m
 
-pub distinct_append : (l m : List ℕ) → T (distinct l) → T (distinct m) → ((x : ℕ) → T (member x l) → T (member x m) → ⊥) → T (distinct (l ++ m))
-unfolding distinct
-distinct_append [] m t u n = u
-distinct_append (y ∷ l) m t u n =
-    and_intro _ _ (isnt_intro _ (λ v. ⊎_elim (isnt_elim _ (and_left _ _ t)) (n y (member_here y l)) (member_append y l m v)))
-    (distinct_append l m (and_right _ _ t) u (λ x v. n x (member_there x y l v)))
-
 pub distinct_snoc : (l : List ℕ) (x : ℕ) → T (distinct l) → (T (member x l) → ⊥) → T (distinct (l ++ (x ∷ [])))
 unfolding distinct
-distinct_snoc l x t n =
-    distinct_append l (x ∷ []) t (and_intro _ _ (isnt_intro _ (member_nil x)) tt) (λ y m u. n (subst (λ z. T (member z l)) (member_one y x u) m))
+distinct_snoc [] x t n = and_intro _ _ (isnt_intro _ (member_nil x)) tt
+distinct_snoc (y ∷ l) x t n =
+    and_intro _ _
+    (isnt_intro _ (λ m. ⊎_elim (isnt_elim _ (and_left _ _ t)) (λ e. n (subst (λ z. T (member z (y ∷ l))) e (member_here y l)))
+    (member_snoc l x y m)))
+    (distinct_snoc l x (and_right _ _ t) (λ m. n (member_there x y l m)))
 
 pub distinct_left : (l m : List ℕ) → T (distinct (l ++ m)) → T (distinct l)
 unfolding distinct

@@ -4,7 +4,7 @@ use native.Mathlib.Nat.{le_refl, le_step, lt_irrefl, add-zero, add-suc, mul-zero
 use native.Mathlib.Numerals.{add-one}
 use native.Mathlib.Omega.{arith}
 use mathlib.Core.Path.{◌≡◌, refl, sym, ◌∙◌, ap, ap₂, subst}
-use mathlib.Core.Logic.{⊎_elim}
+use mathlib.Core.Logic.{◌⊎◌, ⊎_elim}
 use mathlib.Core.Bool.{Bool, true, false, cond}
 use mathlib.Core.List.{List, [], ◌∷◌}
 use lib.Dec.{T}
@@ -77,16 +77,6 @@ total_point (suc n) f g x w h e o = ⊎_elim (λ l. below l (total_point n f g x
         let s : total n g ≡ total n f = total_ext n g f (λ k b. o k (le_step b) (λ j. lt_irrefl k (subst (λ z. k < z) (sym (j ∙ i)) b))) in
         let last : g n ≡ f n + w = subst (λ z. g z ≡ f z + w) i e in
         omega arith
-
--- the same where the others do not fall
-pub total_more : (n : ℕ) (f g : ℕ → ℕ) (x w : ℕ) → x < n → ((k : ℕ) → k < n → f k ≤ g k) → f x + w ≤ g x → total n f + w ≤ total n g
-unfolding total
-total_more zero f g x w h o e = absurd (not-suc-le-zero h)
-total_more (suc n) f g x w h o e =
-    ⊎_elim
-    (λ l. let m : total n f + w ≤ total n g = total_more n f g x w l (λ k b. o k (le_step b)) e in let i : f n ≤ g n = o n (le_refl (suc n)) in omega arith)
-    (λ i. let m : total n f ≤ total n g = total_le n f g (λ k b. o k (le_step b)) in let j : f n + w ≤ g n = subst (λ k. f k + w ≤ g k) i e in omega arith)
-    (lt_suc_cases x n h)
 
 pub weigh_true : (b : Bool) (n : ℕ) → T b → weigh b n ≡ n
 unfolding weigh

@@ -5,4 +5,3 @@ pub mod Deciding
 pub mod Api
 pub mod Indexing
 pub mod Visits
-pub mod Feeding

@@ -3,7 +3,6 @@
 pub mod charging;
 mod counting;
 mod deciding;
-pub mod feeding;
 mod fields;
 pub mod inference;
 pub mod layout;

@@ -1,5 +1,4 @@
-// Document 01, The sheet: a table in the old layout (document 02, S-5) judged, run in the plain reading with the bound as budget, and
-// printed into an array.
+// Document 01, The sheet: a table in the old layout (document 02, S-5) judged, run with the bound as budget, and printed into an array.
 ghost use Rattle.std.specs.Prelude.{◌+◌, ◌*◌, ◌≤◌, ◌≡◌, length, take};
 ghost use Rattle.logic.specs.Tests.{isnt};
 ghost use Rattle.logic.specs.Reading.{tagged_by};
@@ -16,7 +15,6 @@ use crate::text::{put, put_number};
 use crate::verdict::{Verdict, put_verdict, verdict_of};
 use content::readers::sizes_of;
 use engine::answer::{Answer, Counts};
-use engine::reading::Reading;
 use engine::run::{SCRATCH, run};
 use standing::marks::marks_of;
 use table::edition::{Edition, layout};
@@ -122,14 +120,7 @@ fn put_sheet(table: &[u8], out: &mut [u8]) -> usize
     let most = bound_of(s);
     let mut log = [0u16; 4 * Sizes::MAX_ATOMS as usize];
     let mut scratch = [0u16; SCRATCH];
-    match run(
-        table,
-        Edition::Old,
-        Reading::Plain,
-        most,
-        &mut log,
-        &mut scratch,
-    ) {
+    match run(table, Edition::Old, most, &mut log, &mut scratch) {
         Answer::Refused(why) => put_refused(out, why),
         Answer::Stopped(c) => put_run(out, old, s, &log, c, most),
         Answer::Finished(c) => put_run(out, old, s, &log, c, most),

@@ -13,18 +13,17 @@ use lib.Seq.{length-take-le, take-suc-set, drop-set-lt, drop-drop}
 use Rattle.logic.specs.Tests.{◌and◌, ◌or◌, isnt, member, distinct, upto}
 use Rattle.logic.specs.Theory.{Theory, proper, complement}
 use Rattle.logic.specs.Inference.{follows}
-use Rattle.logic.specs.System.{System, held, Coherent, yields, derivation}
+use Rattle.logic.specs.System.{System, held, Coherent, derivation}
 use Rattle.logic.specs.Worklist.{put, grow}
 use Rattle.logic.specs.Reading.{tagged_by, system_of, with_tags, conclusion}
 use Rattle.logic.specs.Plain.{plain_system}
-use Rattle.logic.specs.WellFounded.{unfed_searches}
 use Rattle.logic.proofs.Tests.{and_intro, and_left, and_right, false_of, isnt_elim, isnt_intro, of_false, of_true, or_elim, or_left, or_right, test_cases}
 use Rattle.logic.proofs.Lists.{distinct_snoc, member_last, member_left, member_more}
 use Rattle.logic.proofs.Literals.{join_div, join_mod}
-use Rattle.logic.proofs.Derivations.{derivation_snoc, monotone}
-use Rattle.logic.proofs.Coherence.{part_coherent}
+use Rattle.logic.proofs.Derivations.{derivation_snoc, derives_all_below, monotone}
+use Rattle.logic.proofs.Coherence.{coherent_length, part_coherent}
 use Rattle.logic.proofs.Runs.{grow_append}
-use Rattle.logic.proofs.WellFounded.{searched_lawful, searched_coherent, searched_length}
+use Rattle.logic.proofs.Plain.{plain_coherent, plain_lawful}
 use Rattle.table.specs.declared.format.Sizes.{Sizes}
 use Rattle.table.specs.Format.{theory_in}
 use Rattle.table.specs.Refusals.{Legal}
@@ -32,7 +31,7 @@ use Rattle.table.proofs.Legal.{Limited, limited, ranged, proper_theory}
 use Rattle.memory.specs.Layout.{tag_count}
 use Rattle.memory.specs.Memory.{held_of, written_of}
 use Rattle.memory.specs.Api.{adds, Wrote}
-use Rattle.engine.specs.Working.{Logged, Tried, Appended}
+use Rattle.engine.specs.Working.{Logged, Tried}
 use Rattle.memory.proofs.Views.{kept_none, kept_then}
 use Rattle.memory.proofs.visit.Marks.{held_written}
 
@@ -73,8 +72,11 @@ put_adds false l x t = absurd t
 
 module _ (d : Theory) (p : T (proper d)) where
   -- a derivation without repeats has at most 4A lines
-  pub good_length : (l : List ℕ) → T (derivation (plain_system d) (unfed_searches d) l) → T (distinct l) → length l ≤ tag_count * d.atoms
-  good_length = searched_length d p
+  pub good_length : (l : List ℕ) → T (derivation (plain_system d) l) → T (distinct l) → length l ≤ tag_count * d.atoms
+  unfolding system_of
+  good_length l t o =
+      coherent_length (tag_count * d.atoms) l o
+      (λ x m. let b : x < tag_count * (2 * d.atoms) = derives_all_below (plain_system d) [] l t x m in omega arith) (plain_coherent d p l t)
 
   pub lines_most : (m l : List ℕ) (n : ℕ) → Logged d m l n → n ≤ tag_count * d.atoms
   lines_most m l n g = omega (arith, good_length (take n l) g.derives g.once, length-take-le n l g.inside)
@@ -93,21 +95,17 @@ module _ (d : Theory) (p : T (proper d)) where
         kept = kept_none m;
       }
 
-  -- what follows from what is processed is yielded by the lines
-  line_yields : (m l : List ℕ) (n x : ℕ) → Logged d m l n → T ((plain_system d).infers (held_of m) x) → T (yields (plain_system d) (unfed_searches d) (held (take n l)) x)
-  line_yields m l n x g t =
-      or_left _ _ (monotone (plain_system d) (unfed_searches d) (searched_lawful d p) (held_of m) (held (take n l)) x (λ y u. subst T (g.written y) (held_written m y u)) t)
-
-  -- the lines with what they yield are a derivation, so its opposite is no line
-  line_derives : (m l : List ℕ) (n x : ℕ) → Logged d m l n → x < tag_count * (2 * d.atoms) → T (yields (plain_system d) (unfed_searches d) (held (take n l)) x)
-      → T (derivation (plain_system d) (unfed_searches d) (take n l ++ (x ∷ [])))
+  -- the lines with a conclusion that follows are a derivation, so its opposite is no line
+  line_derives : (m l : List ℕ) (n x : ℕ) → Logged d m l n → x < tag_count * (2 * d.atoms) → T ((plain_system d).infers (held_of m) x) → T (derivation (plain_system d) (take n l ++ (x ∷ [])))
   unfolding system_of
-  line_derives m l n x g small t = derivation_snoc (plain_system d) (unfed_searches d) (take n l) x g.derives (omega arith) t
+  line_derives m l n x g small t =
+      derivation_snoc (plain_system d) (take n l) x g.derives (omega arith)
+      (monotone (plain_system d) (plain_lawful d p) (held_of m) (held (take n l)) x (λ y u. subst T (g.written y) (held_written m y u)) t)
 
   opposite_never : (m l : List ℕ) (n x y : ℕ) → Logged d m l n → x < tag_count * (2 * d.atoms) → y ≡ complement x → T (member y (take n l)) → T ((plain_system d).infers (held_of m) x) → ⊥
   unfolding Coherent
   opposite_never m l n x y g small e o t =
-      searched_coherent d p (take n l ++ (x ∷ [])) (line_derives m l n x g small (line_yields m l n x g t)) x (member_last (take n l) x)
+      plain_coherent d p (take n l ++ (x ∷ [])) (line_derives m l n x g small t) x (member_last (take n l) x)
       (subst (λ z. T (member z (take n l ++ (x ∷ [])))) e (member_left y (take n l) (x ∷ []) o))
 
   -- so what is processed, with a line that is next, holds no conclusion beside its opposite
@@ -115,20 +113,19 @@ module _ (d : Theory) (p : T (proper d)) where
   next_coherent m l n x g e =
       part_coherent (adds (held_of m) x) (held (take n l))
       (λ y u. ⊎_elim (λ v. subst T (g.written y) (held_written m y v)) (λ v. subst (λ z. T (member z (take n l))) (sym (eqb→eq y x v)) (subst T (g.written x) (of_true _ e))) (or_elim _ _ u))
-      (searched_coherent d p (take n l) g.derives)
+      (plain_coherent d p (take n l) g.derives)
 
   -- a conclusion is not tried if it or its opposite is written
   pub skips_opposed : (m l : List ℕ) (n x y : ℕ) → Logged d m l n → x < tag_count * (2 * d.atoms) → y ≡ complement x → T (written_of m x) ⊎ T (written_of m y) → Tried d (x ∷ []) m l n m l n
   skips_opposed m l n x y g small e w =
       skips m l n x g (λ t. ⊎_elim (λ u. subst T (g.written x) u) (λ u. absurd (opposite_never m l n x y g small e (subst T (g.written y) u) t)) w)
 
-  -- a conclusion that the lines yield and that is not written goes to the end of the log
-  module _ (m l : List ℕ) (n x : ℕ) (g : Logged d m l n) (small : x < tag_count * (2 * d.atoms)) (new : written_of m x ≡ false)
-      (t : T (yields (plain_system d) (unfed_searches d) (held (take n l)) x)) where
-    pub absent : T (member x (take n l)) → ⊥
+  -- a conclusion that follows and is not written goes to the end of the log
+  module _ (m l : List ℕ) (n x : ℕ) (g : Logged d m l n) (small : x < tag_count * (2 * d.atoms)) (new : written_of m x ≡ false) (t : T ((plain_system d).infers (held_of m) x)) where
+    absent : T (member x (take n l)) → ⊥
     absent u = of_false _ new (subst T (sym (g.written x)) u)
 
-    derives_more : T (derivation (plain_system d) (unfed_searches d) (take n l ++ (x ∷ [])))
+    derives_more : T (derivation (plain_system d) (take n l ++ (x ∷ [])))
     derives_more = line_derives m l n x g small t
 
     once_more : T (distinct (take n l ++ (x ∷ [])))
@@ -144,37 +141,25 @@ module _ (d : Theory) (p : T (proper d)) where
     taken : take (n + 1) (set l n x) ≡ take n l ++ (x ∷ [])
     taken = ap (λ k. take k (set l n x)) (add-one n) ∙ take-suc-set l n x fits_log
 
-    pub appends : (m' : List ℕ) → Wrote d x m m' → Appended d x m l n m' (set l n x) (n + 1)
-    appends m' w =
+    pub writes : (m' : List ℕ) → Wrote d x m m' → Tried d (x ∷ []) m l n m' (set l n x) (n + 1)
+    unfolding grow
+    writes m' w =
         record {
           logged =
               record {
                 ready = w.ready;
                 written = λ y. w.written y ∙ ap (λ b. b or eqb y x) (g.written y) ∙ member_more (take n l) x y ∙ ap (member y) (sym taken);
-                derives = subst (λ k. T (derivation (plain_system d) (unfed_searches d) k)) (sym taken) derives_more;
+                derives = subst (λ k. T (derivation (plain_system d) k)) (sym taken) derives_more;
                 once = subst (λ k. T (distinct k)) (sym taken) once_more;
                 inside = omega (arith, fits_log, length-set l n x);
                 room = omega (arith, g.room, length-set l n x);
               };
-          lines = taken;
-          grown = record { past = drop-set-lt (n + 1) l n x (omega arith); more = omega arith; size = length-set l n x; kept = w.kept };
+          lines = taken ∙ sym (put_adds _ (take n l) x (and_intro _ _ t (isnt_intro _ absent)));
+          past = drop-set-lt (n + 1) l n x (omega arith);
+          more = omega arith;
+          size = length-set l n x;
           held = w.same;
-        }
-
-  -- one that follows from what is processed
-  module _ (m l : List ℕ) (n x : ℕ) (g : Logged d m l n) (small : x < tag_count * (2 * d.atoms)) (new : written_of m x ≡ false) (t : T ((plain_system d).infers (held_of m) x)) where
-    pub writes : (m' : List ℕ) → Wrote d x m m' → Tried d (x ∷ []) m l n m' (set l n x) (n + 1)
-    unfolding grow
-    writes m' w =
-        let a = appends m l n x g small new (line_yields m l n x g t) m' w in
-        record {
-          logged = a.logged;
-          lines = a.lines ∙ sym (put_adds _ (take n l) x (and_intro _ _ t (isnt_intro _ (absent m l n x g small new (line_yields m l n x g t)))));
-          past = a.grown.past;
-          more = a.grown.more;
-          size = a.grown.size;
-          held = a.held;
-          kept = a.grown.kept;
+          kept = w.kept;
         }
 
 -- the same held, as functions
@@ -234,15 +219,6 @@ module _ (d : Theory) (m l m' l' : List ℕ) (n n' x : ℕ) (g : Logged d m l n)
       ⊎_elim (λ t. subst T (sym (f.logged.written x ∙ ap (member x) (lines_now ∙ put_adds goes (take n l) x t))) (member_last (take n l) x))
       (λ u. absurd (h (counted ∙ ap length (put_stays goes (take n l) x u) ∙ length-take-le n l g.inside))) (test_cases goes)
 
--- a line more has room
-module _ (b : List ℕ) (s : Sizes) (e : Legal b s) where
-  pub room_in : (mem log : List ℕ) (n x : ℕ) → Logged (theory_in b s) mem log n → x < tag_count * (2 * (theory_in b s).atoms) → written_of mem x ≡ false
-      → T (yields (plain_system (theory_in b s)) (unfed_searches (theory_in b s)) (held (take n log)) x) → (n < length log) × (n < 2048)
-  room_in mem log n x g small new t = (
-    fits_log (theory_in b s) (proper_in b s e) mem log n x g small new t,
-    omega (arith, fits_line (theory_in b s) (proper_in b s e) mem log n x g small new t, atoms_in b s, (few b s e).atoms),
-  )
-
 -- Tag t of literal q of an accepted table.
 module _ (b : List ℕ) (s : Sizes) (e : Legal b s) (q t : ℕ) (l : q < 2 * s.atoms) (k : t < tag_count) where
   small_here : tag_count * q + t < tag_count * (2 * (theory_in b s).atoms)
@@ -259,7 +235,10 @@ module _ (b : List ℕ) (s : Sizes) (e : Legal b s) (q t : ℕ) (l : q < 2 * s.a
       proved = of_true _ (infers_at (theory_in b s) (held_of mem) q t k ∙ sym fr ∙ hr)
 
       pub room_for : (n < length log) × (n < 2048)
-      room_for = room_in b s e mem log n (tag_count * q + t) g small_here new (line_yields (theory_in b s) (proper_in b s e) mem log n (tag_count * q + t) g proved)
+      room_for = (
+        fits_log (theory_in b s) (proper_in b s e) mem log n (tag_count * q + t) g small_here new proved,
+        omega (arith, fits_line (theory_in b s) (proper_in b s e) mem log n (tag_count * q + t) g small_here new proved, atoms_in b s, (few b s e).atoms),
+      )
 
       pub writes_line : (mem' : List ℕ) → Wrote (theory_in b s) (tag_count * q + t) mem mem' → Tried (theory_in b s) ((tag_count * q + t) ∷ []) mem log n mem' (set log n (tag_count * q + t)) (n + 1)
       writes_line = writes (theory_in b s) (proper_in b s e) mem log n (tag_count * q + t) g small_here new proved

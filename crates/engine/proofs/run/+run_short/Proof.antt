@@ -17,7 +17,7 @@ use Rattle.engine.proofs.run.+run_short.{statement}
 use Rattle.engine.proofs.run.+run_short.Tie.{close}
 
 abbrev μ-run-short : Measures 3 run-short-kinds.ps ℕ
-μ-run-short κs a = length a.1.1.1.1.1.0.now
+μ-run-short κs a = length a.1.1.1.1.0.now
 
 abbrev run_short_at : ℕ → In 3 run-short-kinds.ps
 run_short_at t = and 3 run-short-kinds.ps (is 3 run-short-kinds.ps μ-run-short t) run-short.Pre
@@ -46,6 +46,6 @@ pub +run-short-spec : {M : Type 1} → statement M
     ))
     (λ c. search rules) (λ c. search rules)
     (λ c.
-    let at-run-short = c.before.before.before.before in let start = at-run-short.before.before.before.before.before.before.before in let paid = start.requires.1 in
-    ran_cut start.args.reading _ _ paid.accepted _ _ _ paid.words _ _ _ at-run-short.run-short.ensures refl)
+    let at-run-short = c.before.before.before.before in let paid = at-run-short.before.before.before.before.before.before.before.requires.1 in
+    ran_cut _ _ paid.accepted _ _ _ paid.words _ _ _ at-run-short.run-short.ensures refl)
     (λ c κs. c.before.before.before.before.before.before.requires.1) (λ c. search rules) (λ c. search rules) (λ c. search rules))

@@ -13,12 +13,12 @@ run-accepted-requires c κs =
 returns : tie.Need-returns
 returns c =
     let at-run = c.before.before.before.before in let at-layout = at-run.before.before.before in let at-s = at-layout.before.before in
-    ran_of _ _ _ _ _ _ _ _ _ _ at-s.before.before.judge.ensures.judgement at-s.s.given.1 at-layout.layout.ensures at-run.run-accepted.ensures
+    ran_of _ _ _ _ _ _ _ _ _ at-s.before.before.judge.ensures.judgement at-s.s.given.1 at-layout.layout.ensures at-run.run-accepted.ensures
 
 returns-2 : tie.Need-returns-2
 returns-2 c =
     let at-refuse = c.before.before.before.before in let at_n = at-refuse.before.before.before.before in
-    ran_refused_of _ _ _ _ _ _ _ at_n.before.before.judge.ensures.judgement at_n.n.given.1 at-refuse.refuse.ensures
+    ran_refused_of _ _ _ _ _ _ at_n.before.before.judge.ensures.judgement at_n.n.given.1 at-refuse.refuse.ensures
 
 pub run_spec : {M : Type 1} → statement M
 run_spec =

@@ -23,7 +23,7 @@ returns : tie.Need-returns
 returns c =
     let at-work = c.before.before.before.before in let at-write-initial = at-work.before.before.before.before.before.before.before in
     let at-prepare = at-write-initial.before.before.before.before.before in let start = at-prepare.before.before.before.before.before in
-    worked_all start.args.reading _ _ _ start.requires.0.size start.requires.0.within at-prepare.prepare.ensures at-write-initial.write-initial.ensures at-work.work.ensures
+    worked_all _ _ _ start.requires.0.size start.requires.0.within at-prepare.prepare.ensures at-write-initial.write-initial.ensures at-work.work.ensures
 
 pub run-started-spec : {M : Type 1} → statement M
 run-started-spec =

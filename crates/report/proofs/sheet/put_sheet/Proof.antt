@@ -14,7 +14,7 @@ put-run-requires c κs =
     let at_c = c.before.before.before in let at-run = at_c.before.before.before.before in let at-bound-of = at-run.before.before.before in
     let at-layout = at-bound-of.before in let at-sizes-of = at-layout.before in
     let start = at-sizes-of.before.before.before in let old = at-layout.layout.result.now in let s = at-sizes-of.sizes-of.result in (
-      stopped_fits old s at-bound-of.bound_of.result at-run.run.new.1.1.1.1.0 at-run.run.result _ at_c.c.given.1
+      stopped_fits old s at-bound-of.bound_of.result at-run.run.new.1.1.1.0 at-run.run.result _ at_c.c.given.1
           (ran_fits at-run.run.result (length-replicate {A = ℕ} 2048 0) (length-replicate {A = ℕ} 32768 0) start.args.table.now at-run.run.ensures old at-layout.layout.ensures s at-sizes-of.sizes-of.ensures at-bound-of.bound_of.ensures),
       start.requires,
     )
@@ -24,7 +24,7 @@ put-run-requires-2 c κs =
     let at-c2 = c.before.before.before in let at-run = at-c2.before.before.before.before in let at-bound-of = at-run.before.before.before in
     let at-layout = at-bound-of.before in let at-sizes-of = at-layout.before in
     let start = at-sizes-of.before.before.before in let old = at-layout.layout.result.now in let s = at-sizes-of.sizes-of.result in (
-      finished_fits old s at-bound-of.bound_of.result at-run.run.new.1.1.1.1.0 at-run.run.result _ at-c2.c2.given.1
+      finished_fits old s at-bound-of.bound_of.result at-run.run.new.1.1.1.0 at-run.run.result _ at-c2.c2.given.1
           (ran_fits at-run.run.result (length-replicate {A = ℕ} 2048 0) (length-replicate {A = ℕ} 32768 0) start.args.table.now at-run.run.ensures old at-layout.layout.ensures s at-sizes-of.sizes-of.ensures at-bound-of.bound_of.ensures),
       start.requires,
     )
@@ -34,7 +34,7 @@ returns c =
     let at-put-refused = c.before.before in let at-why = at-put-refused.before.before.before in let at-run = at-why.before.before.before.before in
     let at-bound-of = at-run.before.before.before in let at-layout = at-bound-of.before in let at-sizes-of = at-layout.before in let start = at-sizes-of.before.before.before in let old = at-layout.layout.result.now in let s = at-sizes-of.sizes-of.result in
     subst (λ z. Put start.args.out.now 0 z at-put-refused.Put-refused.new.0 at-put-refused.Put-refused.result)
-    (refused_text (theory_in old s) at-bound-of.bound_of.result at-run.run.new.1.1.1.1.0 at-run.run.result _ at-why.why.given.1 ∙ ran_sheet at-run.run.result (length-replicate {A = ℕ} 2048 0) (length-replicate {A = ℕ} 32768 0) start.args.table.now at-run.run.ensures old at-layout.layout.ensures s at-sizes-of.sizes-of.ensures at-bound-of.bound_of.ensures)
+    (refused_text (theory_in old s) at-bound-of.bound_of.result at-run.run.new.1.1.1.0 at-run.run.result _ at-why.why.given.1 ∙ ran_sheet at-run.run.result (length-replicate {A = ℕ} 2048 0) (length-replicate {A = ℕ} 32768 0) start.args.table.now at-run.run.ensures old at-layout.layout.ensures s at-sizes-of.sizes-of.ensures at-bound-of.bound_of.ensures)
     at-put-refused.Put-refused.ensures
 
 returns-2 : tie.Need-returns-2
@@ -42,7 +42,7 @@ returns-2 c =
     let at-put-run = c.before.before in let at_c = at-put-run.before.before.before.before in let at-run = at_c.before.before.before.before in
     let at-bound-of = at-run.before.before.before in let at-layout = at-bound-of.before in let at-sizes-of = at-layout.before in let start = at-sizes-of.before.before.before in let old = at-layout.layout.result.now in let s = at-sizes-of.sizes-of.result in
     subst (λ z. Put start.args.out.now 0 z at-put-run.put-run.new.0 at-put-run.put-run.result)
-    (stopped_text (theory_in old s) at-bound-of.bound_of.result at-run.run.new.1.1.1.1.0 at-run.run.result _ at_c.c.given.1 ∙ ran_sheet at-run.run.result (length-replicate {A = ℕ} 2048 0) (length-replicate {A = ℕ} 32768 0) start.args.table.now at-run.run.ensures old at-layout.layout.ensures s at-sizes-of.sizes-of.ensures at-bound-of.bound_of.ensures)
+    (stopped_text (theory_in old s) at-bound-of.bound_of.result at-run.run.new.1.1.1.0 at-run.run.result _ at_c.c.given.1 ∙ ran_sheet at-run.run.result (length-replicate {A = ℕ} 2048 0) (length-replicate {A = ℕ} 32768 0) start.args.table.now at-run.run.ensures old at-layout.layout.ensures s at-sizes-of.sizes-of.ensures at-bound-of.bound_of.ensures)
     at-put-run.put-run.ensures
 
 returns-3 : tie.Need-returns-3
@@ -50,7 +50,7 @@ returns-3 c =
     let at-put-run2 = c.before.before in let at-c2 = at-put-run2.before.before.before.before in let at-run = at-c2.before.before.before.before in
     let at-bound-of = at-run.before.before.before in let at-layout = at-bound-of.before in let at-sizes-of = at-layout.before in let start = at-sizes-of.before.before.before in let old = at-layout.layout.result.now in let s = at-sizes-of.sizes-of.result in
     subst (λ z. Put start.args.out.now 0 z at-put-run2.put-run2.new.0 at-put-run2.put-run2.result)
-    (finished_text (theory_in old s) at-bound-of.bound_of.result at-run.run.new.1.1.1.1.0 at-run.run.result _ at-c2.c2.given.1 ∙ ran_sheet at-run.run.result (length-replicate {A = ℕ} 2048 0) (length-replicate {A = ℕ} 32768 0) start.args.table.now at-run.run.ensures old at-layout.layout.ensures s at-sizes-of.sizes-of.ensures at-bound-of.bound_of.ensures)
+    (finished_text (theory_in old s) at-bound-of.bound_of.result at-run.run.new.1.1.1.0 at-run.run.result _ at-c2.c2.given.1 ∙ ran_sheet at-run.run.result (length-replicate {A = ℕ} 2048 0) (length-replicate {A = ℕ} 32768 0) start.args.table.now at-run.run.ensures old at-layout.layout.ensures s at-sizes-of.sizes-of.ensures at-bound-of.bound_of.ensures)
     at-put-run2.put-run2.ensures
 
 pub put-sheet-spec : {M : Type 1} → statement M

@@ -1,2 +1,0 @@
--- Laws of what a search asks.
-pub mod Asking
