@@ -1,6 +1,8 @@
 // Runs the cases that are not theorems, from the data files, and compares. Each file has a line with the number of its records and of
 // those that gave what they must. Before it, each other record has a line: the file, the record's number, what differs first and
 // its place, what came and what was wanted.
+#![tactic(auto)]
+
 mod difference;
 mod joins;
 mod noise;

@@ -1,5 +1,7 @@
 // The functions that a console written in C links (include/flyrules.h), on numbers and slices alone. Each calls one proved function in the
 // edition that it is told, whose contract is handed on whole.
+#![tactic(auto)]
+
 mod told;
 
 ghost use Rattle.std.specs.Prelude.{◌≡◌};

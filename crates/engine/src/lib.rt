@@ -1,4 +1,6 @@
 // The engine: the run of a table under a budget (document 01, The rule of working, and its price).
+#![tactic(auto)]
+
 pub mod answer;
 pub mod run;
 mod tally;

@@ -1,11 +1,11 @@
 -- What is tried after a conclusion: its candidates, each with every tag. Assumes nothing.
-use Prim.Native.Nat.{ℕ, ◌+◌, ◌*◌, ◌<◌}
+use Prim.Native.Nat.{ℕ, ◌*◌, ◌<◌}
 use native.Mathlib.Omega.{arith}
 use mathlib.Core.Path.{◌≡◌, refl, sym, ◌∙◌, ap, subst}
 use mathlib.Core.Logic.{◌⊎◌, inl, inr, ⊎_elim}
 use mathlib.Core.List.{List, [], ◌∷◌, ◌++◌, map}
 use lib.Dec.{T}
-use Rattle.logic.specs.Tests.{◌and◌, ◌or◌, member, upto}
+use Rattle.logic.specs.Tests.{member, upto}
 use Rattle.logic.specs.Theory.{Theory, complement, head_of}
 use Rattle.logic.specs.Reading.{conclusion, visits, visited, heads, candidates, with_tags}
 use Rattle.logic.proofs.Lists.{member_nil, member_here, member_there, member_cons_elim, member_left, member_right, member_append, member_pick, member_pick_intro, member_upto, member_upto_intro, member_map, member_map_intro}

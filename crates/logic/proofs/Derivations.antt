@@ -1,11 +1,11 @@
 -- Derivations of any closure system. Assumes nothing.
 use Prim.Native.Nat.{ℕ, ◌≤◌, ◌<◌}
 use mathlib.Core.Path.{sym, subst}
-use mathlib.Core.Logic.{◌⊎◌, ⊎_elim}
+use mathlib.Core.Logic.{⊎_elim}
 use mathlib.Core.Bool.{Bool}
 use mathlib.Core.List.{List, [], ◌∷◌, ◌++◌}
 use lib.Dec.{T, ltb→lt, lt→ltb}
-use Rattle.logic.specs.Tests.{◌and◌, member}
+use Rattle.logic.specs.Tests.{member}
 use Rattle.logic.specs.System.{System, held, derives_from, derivation}
 use Rattle.logic.proofs.Tests.{and_intro, and_left, and_right}
 use Rattle.logic.proofs.Lists.{member_left, member_cons_elim, member_nil, snoc_append}

@@ -9,7 +9,7 @@ use mathlib.Core.List.{List, [], ◌∷◌, ◌++◌, map, map-append, append_as
 use lib.Dec.{T, eqb, eqb→eq, eqb_refl}
 use lib.ListN.{length, get_or, take, drop, length-append, length-map, take-append-drop, get_or-append}
 use lib.Seq.{get_or_at, drop-cons}
-use Rattle.logic.specs.Tests.{◌and◌, ◌or◌, isnt, some_of, member, empty, distinct, upto, pick}
+use Rattle.logic.specs.Tests.{◌or◌, isnt, some_of, member, empty, distinct, upto, pick}
 use Rattle.logic.proofs.Tests.{cond_true, cond_false, cond_cases, and_intro, and_left, and_right, or_left, or_right, or_elim, isnt_intro, isnt_elim, lt_suc_cases, test_eq}
 
 pub member_cons_elim : (x y : ℕ) (l : List ℕ) → T (member x (y ∷ l)) → (x ≡ y) ⊎ T (member x l)

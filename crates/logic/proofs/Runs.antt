@@ -3,13 +3,13 @@ use Prim.Native.Nat.{ℕ, zero, suc, ◌+◌, ◌-◌, ◌≤◌, ◌<◌}
 use native.Mathlib.Nat.{not-le_of_lt}
 use native.Mathlib.Omega.{arith}
 use mathlib.Core.Path.{◌≡◌, refl, sym, ◌∙◌, ap, subst}
-use mathlib.Core.Logic.{◌⊎◌, ⊎_elim}
+use mathlib.Core.Logic.{⊎_elim}
 use mathlib.Core.Bool.{Bool, true, false}
 use mathlib.Core.List.{List, [], ◌∷◌, ◌++◌, append_assoc, append-nil, IsPrefix}
 use lib.Dec.{T, leb, leb→le, le→leb}
 use Rattle.logic.specs.Tests.{◌and◌, isnt, member, empty, distinct}
 use Rattle.logic.specs.System.{System, held, derives_from, derivation}
-use Rattle.logic.specs.Worklist.{Outcome, outcome, put, initial, grow, process, cost_after, costs_from, costs, proceed, run}
+use Rattle.logic.specs.Worklist.{Outcome, outcome, put, initial, grow, process, cost_after, costs_from, costs, proceed}
 use Rattle.logic.proofs.Tests.{test_cases, cond_true, cond_false, at_most, and_intro, and_left, and_right, isnt_intro, isnt_elim}
 use Rattle.logic.proofs.Lists.{member_nil, member_here, member_there, member_left, member_right, member_cons_elim, member_snoc, member_last, snoc_append, distinct_snoc, distinct_pick, distinct_upto, member_pick, member_pick_intro, member_upto, member_upto_intro}
 use Rattle.logic.proofs.Derivations.{Lawful, monotone, derives_next, derivation_snoc, derives_all_below}
@@ -40,13 +40,13 @@ module _ (s : System) where
   pub grow_extends : (h : ℕ → Bool) (done todo cs : List ℕ) → IsPrefix todo (grow s h done todo cs)
   unfolding grow
   grow_extends h done todo [] = prefix_refl todo
-  grow_extends h done todo (c ∷ cs) = prefix_trans todo _ _ (put_extends _ todo c) (grow_extends h done _ cs)
+  grow_extends h done todo (c ∷ cs) = prefix_trans todo _ _ (put_extends _ todo c) (grow_extends h done (put (s.infers h c and isnt (member c (done ++ todo))) todo c) cs)
 
   -- a list tried in two parts
   pub grow_append : (h : ℕ → Bool) (done todo cs ds : List ℕ) → grow s h done todo (cs ++ ds) ≡ grow s h done (grow s h done todo cs) ds
   unfolding grow
   grow_append h done todo [] ds = refl
-  grow_append h done todo (c ∷ cs) ds = grow_append h done _ cs ds
+  grow_append h done todo (c ∷ cs) ds = grow_append h done (put (s.infers h c and isnt (member c (done ++ todo))) todo c) cs ds
 
   -- what is processed, then what is pending: a derivation without repeats that holds all that follows from what is processed
   pub record Sound (done todo : List ℕ) : Type 0 where
@@ -146,13 +146,13 @@ module _ (s : System) (w : Lawful s) where
   unfolding grow
   grow_good done todo [] b g = g
   grow_good done todo (c ∷ cs) b g =
-      grow_good done _ cs (λ x m. b x (member_there x c cs m)) (put_good done todo c (b c (member_here c cs)) g)
+      grow_good done (put (s.infers (held done) c and isnt (member c (done ++ todo))) todo c) cs (λ x m. b x (member_there x c cs m)) (put_good done todo c (b c (member_here c cs)) g)
 
   -- what was tried and follows is in the log
   grow_holds : (done todo cs : List ℕ) (c : ℕ) → T (member c cs) → T (s.infers (held done) c) → T (member c (done ++ grow s (held done) done todo cs))
   unfolding grow
   grow_holds done todo [] c m t = absurd (member_nil c m)
-  grow_holds done todo (y ∷ cs) c m t = ⊎_elim here (λ u. grow_holds done _ cs c u t) (member_cons_elim c y cs m)
+  grow_holds done todo (y ∷ cs) c m t = ⊎_elim here (λ u. grow_holds done (put (s.infers (held done) y and isnt (member y (done ++ todo))) todo y) cs c u t) (member_cons_elim c y cs m)
     where
       written : T (member c (done ++ put (s.infers (held done) c and isnt (member c (done ++ todo))) todo c))
       written =

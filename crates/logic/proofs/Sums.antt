@@ -4,12 +4,12 @@ use native.Mathlib.Nat.{le_refl, le_step, lt_irrefl, add-zero, add-suc, mul-zero
 use native.Mathlib.Numerals.{add-one}
 use native.Mathlib.Omega.{arith}
 use mathlib.Core.Path.{◌≡◌, refl, sym, ◌∙◌, ap, ap₂, subst}
-use mathlib.Core.Logic.{◌⊎◌, ⊎_elim}
+use mathlib.Core.Logic.{⊎_elim}
 use mathlib.Core.Bool.{Bool, true, false, cond}
 use mathlib.Core.List.{List, [], ◌∷◌}
 use lib.Dec.{T}
 use lib.ListN.{length, length-append}
-use Rattle.logic.specs.Tests.{◌and◌, ◌or◌, member, distinct, total, weigh, count_below, upto, pick}
+use Rattle.logic.specs.Tests.{◌and◌, member, distinct, total, weigh, count_below, upto, pick}
 use Rattle.logic.proofs.Tests.{test_cases, true_of, false_of, lt_suc_cases}
 use Rattle.logic.proofs.Lists.{pick_append, pick_same, pick_more}
 

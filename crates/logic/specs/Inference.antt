@@ -1,6 +1,6 @@
 -- Document 01, When a conclusion follows (document 004, Proof Theory): the inference rules of the plain reading, over a test
 -- `holds q t`: tag t of literal q is held.
-use Rattle.std.specs.Prelude.{ℕ, zero, suc, Bool, List}
+use Rattle.std.specs.Prelude.{ℕ, zero, suc, Bool}
 use Rattle.logic.specs.Tests.{◌and◌, ◌or◌, isnt, ◌implies◌, every, some, every_of, some_of}
 use Rattle.logic.specs.Theory.{Theory, complement, body_of, is_fact, strict_for, supporter, attacker, superior}
 

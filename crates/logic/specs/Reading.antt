@@ -1,6 +1,6 @@
 -- A reading of theories, and the closure system that it makes of one: lines, candidates, visited rules and the price of
 -- document 01, over the reading's number of tags and its inference rules.
-use Rattle.std.specs.Prelude.{ℕ, ◌+◌, ◌*◌, ◌/◌, ◌%◌, Bool, cond, List, [], ◌∷◌, ◌++◌, map, eqb}
+use Rattle.std.specs.Prelude.{ℕ, ◌+◌, ◌*◌, ◌/◌, ◌%◌, Bool, List, [], ◌∷◌, ◌++◌, map, eqb}
 use Rattle.std.proofs.Math.ListN
 use Rattle.logic.specs.Tests.{◌and◌, ◌or◌, isnt, member, empty, total, weigh, count_below, upto, pick}
 use Rattle.logic.specs.Theory.{Theory, Pair, complement, is_strict, kind_of, head_of, body_of, size}

@@ -1,6 +1,6 @@
 -- Document 01, Words: what a table says, a defeasible theory.
 use Rattle.std.specs.Prelude.{ℕ, ◌+◌, ◌-◌, ◌*◌, ◌/◌, ◌%◌, Bool, true, false, eqb, ltb}
-use mathlib.Core.List.{List, length}
+use mathlib.Core.List.{List}
 use Rattle.std.proofs.Math.ListN
 use Rattle.logic.specs.Tests.{◌and◌, every, some, every_of, total}
 

@@ -1,5 +1,7 @@
 // The working memory (specs/Memory.antt): what is processed and written, kept in words with the index of a table. It is internal: its
 // functions require what their callers have shown, and its callers look at contracts and laws alone, never at the words. A table is its layout here: editions end above.
+#![tactic(auto)]
+
 pub mod charging;
 mod counting;
 mod deciding;

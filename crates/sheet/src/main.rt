@@ -1,4 +1,6 @@
 // Prints the sheet of the table on standard input. At most 32,779 bytes are read: one more than the longest table has.
+#![tactic(auto)]
+
 use report::sheet::sheet_of;
 use table::format::Sizes;
 

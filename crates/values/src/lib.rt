@@ -1,4 +1,6 @@
 // Small functions that several crates share. A test or a cast that goes by value through one leaves one fact to its caller, and no branch.
+#![tactic(auto)]
+
 ghost use Rattle.std.specs.Prelude.{◌+◌, ◌≤◌, ◌<◌, ◌≡◌, ◌++◌, length, take, drop};
 ghost use Rattle.logic.specs.Tests.{◌and◌, ◌or◌, weigh};
 

@@ -1,5 +1,5 @@
 -- `values::copy_words` meets its contract. The loop's invariant: the words passed are copied. Assumes nothing.
-use Prim.Native.Nat.{ℕ, suc, ◌+◌, ◌-◌, ◌≤◌, ◌<◌}
+use Prim.Native.Nat.{ℕ, suc, ◌+◌, ◌≤◌, ◌<◌}
 use native.Mathlib.Nat.{le_antisymm}
 use native.Mathlib.Numerals.{add-one}
 use native.Mathlib.Omega.{arith}
@@ -7,9 +7,7 @@ use mathlib.Core.Path.{◌≡◌, refl, sym, ◌∙◌, ap}
 use mathlib.Core.List.{List, ◌++◌}
 use lib.ListN.{length, set, take, drop, get_or, length-set}
 use lib.Seq.{length-take-le, take-suc, drop-cons, append_snoc, set_at}
-use borrow.Author.Rules.{rules}
-use Rattle.values.proofs.copy_words.Statement.{statement}
-use Rattle.values.proofs.copy_words.Tie as tie
+use Rattle.values.proofs.copy_words.Goals as goal
 
 copy_next : (l d s : List ℕ) (i : ℕ) → i < length d → i < length s → l ≡ take i s ++ drop i d → set l i (get_or s i 0) ≡ take (i + 1) s ++ drop (i + 1) d
 copy_next l d s i h k e =
@@ -22,28 +20,15 @@ copy_next l d s i h k e =
 copy_end : (l d s : List ℕ) (i n : ℕ) → i ≤ n → n ≤ i → l ≡ take i s ++ drop i d → l ≡ take n s ++ drop n d
 copy_end l d s i n h k e = e ∙ ap (λ z. take z s ++ drop z d) (le_antisymm h k)
 
-abbrev invariant-loop : tie.invariant-loop
-invariant-loop from n to₀ i₀ to i = (i ≤ n) × (length to ≡ length to₀) × (to ≡ take i from ++ drop i to₀)
+pub loop-i-init : goal.loop-i-init
+loop-i-init c = (omega arith, refl, refl)
 
-abbrev decreases-loop : tie.decreases-loop
-decreases-loop from n to₀ i₀ to i = n - i
-
-loop-holds : tie.Need-loop-init invariant-loop decreases-loop
-loop-holds c = (omega arith, refl, refl)
-
-loop-again : tie.Need-loop-preserved invariant-loop decreases-loop
-loop-again c = (
+pub loop-i-preserved : goal.loop-i-preserved
+loop-i-preserved c = (
   omega arith,
-  simp length-set c.before.before.loop.invariant.1,
-  copy_next _ _ _ _ (omega arith) (omega arith) c.before.before.loop.invariant.2,
+  simp length-set c.loop-i.invariant.1,
+  copy_next _ _ _ _ (omega arith) (omega arith) c.loop-i.invariant.2,
 )
 
-returns : tie.Need-returns invariant-loop decreases-loop
-returns c = copy_end _ _ _ _ _ c.before.loop.invariant.0 c.loop-test.false c.before.loop.invariant.2
-
-pub copy-words-spec : {M : Type 1} → statement M
-copy-words-spec =
-    tie.close
-    (tie.spec
-    invariant-loop decreases-loop loop-holds (λ c. search rules) (λ c. search rules) (λ c. search rules) (λ c. search rules) (λ c. search rules)
-    (λ c. search rules) loop-again (λ c. search rules) returns)
+pub returns : goal.returns
+returns c = copy_end _ _ _ _ _ c.loop-i.invariant.0 c.loop-i-test.false c.loop-i.invariant.2
