@@ -1,5 +1,5 @@
 -- What an accepted table has: the layout b is legal, and what that is. Assumes nothing.
-use Prim.Native.Nat.{ℕ, zero, suc, ◌+◌, ◌-◌, ◌*◌, ◌≤◌, ◌<◌}
+use Prim.Native.Nat.{ℕ, zero, suc, ◌+◌, ◌*◌, ◌≤◌, ◌<◌}
 use native.Mathlib.Nat.{lt_of_not-le, not-suc-le-zero, zero-lt-suc, mul-one}
 use mathlib.Core.Path.{◌≡◌, refl, sym, ◌∙◌, ap, subst}
 use mathlib.Core.Logic.{⊎_elim}
@@ -8,7 +8,7 @@ use mathlib.Core.List.{List}
 use borrow.Author.Tests.{ltb-false, lt-ltb, le-ltb}
 use lib.Dec.{T, ltb, eqb, eqb→eq, lt→ltb, le→leb}
 use lib.ListN.{length, length-map}
-use Rattle.logic.specs.Tests.{◌and◌, ◌or◌, weigh, upto, pick, member}
+use Rattle.logic.specs.Tests.{◌or◌, weigh, upto, pick, member}
 use Rattle.logic.specs.Theory.{proper, superior, entries}
 use Rattle.logic.specs.Cycle.{Cycle}
 use Rattle.logic.proofs.Tests.{of_false, false_of, and_intro, or_left, or_right, isnt_intro, every_intro, some_intro, every_of_intro}

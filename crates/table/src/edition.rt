@@ -4,7 +4,7 @@ ghost use Rattle.logic.specs.Tests.{isnt};
 ghost use Rattle.table.specs.declared.edition.Edition.TheVariants.{Two};
 ghost use Rattle.table.specs.Editions.{layout_of, unmarked};
 
-#[derive(Drop)]
+#[derive(Clone, Copy)]
 pub enum Edition {
     // 1, the old layout
     Old,

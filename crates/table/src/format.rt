@@ -5,7 +5,7 @@ ghost use Rattle.logic.specs.Theory.{complement, atom};
 ghost use Rattle.table.specs.Format.{word, sizes_of, span_of, left, right, left_in, right_in, kind_of, origin_of, origin_number, fact_at, rule_at, entry_at, pair_at};
 
 // A literal: 2a says that atom a holds, 2a + 1 that it does not.
-#[derive(Drop)]
+#[derive(Clone, Copy)]
 pub struct Literal(pub u16);
 
 impl Literal {
@@ -24,7 +24,7 @@ impl Literal {
     }
 }
 
-#[derive(Drop)]
+#[derive(Clone, Copy)]
 pub enum Kind {
     Strict,
     Defeasible,
@@ -32,7 +32,7 @@ pub enum Kind {
 }
 
 // Whose rule it is.
-#[derive(Drop)]
+#[derive(Clone, Copy)]
 pub enum Origin {
     // 0
     None,
@@ -59,7 +59,7 @@ impl Origin {
 }
 
 // A rule's kind, origin and head. Its body is apart (body.rt).
-#[derive(Drop)]
+#[derive(Clone, Copy)]
 pub struct Rule {
     pub kind: Kind,
     pub origin: Origin,
@@ -67,21 +67,21 @@ pub struct Rule {
 }
 
 // A pair: rule `stronger` over rule `weaker`.
-#[derive(Drop)]
+#[derive(Clone, Copy)]
 pub struct Pair {
     pub stronger: u16,
     pub weaker: u16,
 }
 
 // An antecedent entry: `literal` stands in the body of rule `rule`.
-#[derive(Drop)]
+#[derive(Clone, Copy)]
 pub struct Entry {
     pub rule: u16,
     pub literal: Literal,
 }
 
 // The five sizes A, F, N, B, P.
-#[derive(Drop)]
+#[derive(Clone, Copy)]
 pub struct Sizes {
     pub atoms: u16,
     pub facts: u16,
@@ -208,7 +208,7 @@ fn origin_of(n: u16) -> Origin
 }
 
 // The words of both arrays at one place.
-#[derive(Drop)]
+#[derive(Clone, Copy)]
 struct Words {
     left: u16,
     right: u16,

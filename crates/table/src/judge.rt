@@ -11,7 +11,7 @@ use crate::range::{bad_kind, out_of_range};
 use values::either;
 
 // The refusals, with document 01's number and word, or document 02's number. Numbers 8, 9 and 12 are of the buffers of a call.
-#[derive(Drop)]
+#[derive(Clone, Copy)]
 pub enum Refusal {
     // 1, stub
     Truncated,
@@ -61,7 +61,7 @@ impl Refusal {
     }
 }
 
-#[derive(Drop)]
+#[derive(Clone, Copy)]
 pub enum Judgement {
     Accepted(Sizes),
     Refused(Refusal),
