@@ -1,12 +1,11 @@
 -- What a legal layout says determines the theory, as it is listed. Assumes nothing.
-use Prim.Native.Nat.{ℕ, zero, suc, ◌+◌, ◌*◌, ◌/◌, ◌%◌, ◌≤◌, ◌<◌}
+use Prim.Native.Nat.{ℕ, ◌+◌, ◌*◌, ◌%◌, ◌≤◌, ◌<◌}
 use native.Mathlib.Omega.{arith}
-use mathlib.Core.Path.{◌≡◌, refl, sym, ◌∙◌, ap, subst}
+use mathlib.Core.Path.{◌≡◌, sym, ◌∙◌, ap, subst}
 use mathlib.Core.Logic.{⊎_elim}
-use mathlib.Core.Bool.{Bool}
 use mathlib.Core.List.{List, map}
 use lib.Dec.{T, eqb, eqb→eq, eqb_refl}
-use Rattle.logic.specs.Tests.{some, member, upto, pick}
+use Rattle.logic.specs.Tests.{member, upto, pick}
 use Rattle.logic.specs.Theory.{superior}
 use Rattle.logic.specs.Content.{SameContent}
 use Rattle.logic.proofs.Tests.{and_intro, and_left, and_right, some_intro, some_elim, at_most}
@@ -14,15 +13,12 @@ use Rattle.logic.proofs.Lists.{member_map_intro, member_pick_intro, member_upto_
 use Rattle.logic.proofs.Rising.{rising_values}
 use Rattle.logic.proofs.Contents.{content_sym}
 use Rattle.table.specs.declared.format.Sizes.{Sizes}
-use Rattle.table.specs.declared.format.Entry.{Entry}
-use Rattle.table.specs.declared.format.Pair.{Pair}
-use Rattle.table.specs.declared.format.Literal.{Literal}
 use Rattle.table.specs.declared.judge.Judgement.TheVariants.{Accepted}
 use Rattle.table.specs.declared.edition.Edition.{Edition}
 use Rattle.table.specs.Editions.{layout_of}
-use Rattle.table.specs.Format.{facts_from, rules_from, entries_from, pairs_from, left_in, right_in, kind_of, kind_meant, fact_at, rule_at, entry_at, pair_at, body_in, theory_in, theory_of}
+use Rattle.table.specs.Format.{facts_from, rules_from, entries_from, pairs_from, kind_of, kind_meant, fact_at, rule_at, entry_at, pair_at, body_in, theory_in, theory_of}
 use Rattle.table.specs.Refusals.{judgement_of, Legal}
-use Rattle.table.proofs.Legal.{legal, theory_read, limited, Ranged, ranged, left_past, right_past, body_entry, rule_below, literal_below, weaker_below}
+use Rattle.table.proofs.Legal.{legal, theory_read, limited, ranged, left_past, right_past, body_entry, rule_below, literal_below, weaker_below}
 use Rattle.table.proofs.Sorted.{Before, before_key, facts_rise, entries_rise, pairs_rise}
 
 -- one row of a section in another: both its words

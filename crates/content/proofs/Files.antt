@@ -8,20 +8,18 @@ use mathlib.Core.Logic.{⊎_elim}
 use mathlib.Core.Bool.{false}
 use mathlib.Core.List.{List, [], ◌∷◌}
 use borrow.Author.Tests.{ltb-false}
-use lib.Dec.{T, ltb, eqb, eqb→eq}
+use lib.Dec.{eqb, eqb→eq}
 use lib.ListN.{length, get_or, drop}
 use lib.Seq.{get_or-drop, ext_get_or}
-use Rattle.logic.specs.Tests.{◌or◌, isnt}
 use Rattle.logic.specs.Theory as theory
 use Rattle.logic.specs.Content.{SameContent}
 use Rattle.logic.proofs.Tests.{test_cases, of_false, false_of, isnt_intro, at_most, some_intro}
 use Rattle.table.specs.declared.format.Sizes.{Sizes}
-use Rattle.table.specs.declared.format.Origin.{Origin}
 use Rattle.table.specs.declared.judge.Judgement.TheVariants.{Accepted}
 use Rattle.table.specs.declared.edition.Edition.{Edition}
 use Rattle.table.specs.declared.edition.Edition.TheVariants.{Old, Two}
 use Rattle.table.specs.Editions.{Bytes, layout_of, unmarked}
-use Rattle.table.specs.Format.{word, sizes_of, span_of, left, right, facts_from, rules_from, entries_from, pairs_from, left_in, right_in, kind_of, kind_meant, origin_of, origin_number, fact_at, rule_at, entry_at, pair_at, origin_at, theory_in, theory_of}
+use Rattle.table.specs.Format.{word, sizes_of, span_of, left, right, facts_from, rules_from, entries_from, pairs_from, left_in, right_in, kind_of, kind_meant, origin_of, origin_number, rule_at, origin_at, theory_in, theory_of}
 use Rattle.table.specs.Refusals.{bad_left, bad_rule, bad_kind, judgement_of, Legal}
 use Rattle.table.proofs.Legal.{legal, passed, marked, or_fails, theory_read, whole_length, left_in_lem, right_in_lem}
 use Rattle.table.proofs.Sections.{fact_left}

@@ -21,7 +21,7 @@ use Rattle.table.specs.declared.judge.Judgement.TheVariants.{Accepted}
 use Rattle.table.specs.declared.edition.Edition.{Edition}
 use Rattle.table.specs.declared.edition.Edition.TheVariants.{Old, Two}
 use Rattle.table.specs.Editions.{layout_of, unmarked}
-use Rattle.table.specs.Format.{sizes_of, left, right, rules_from, kind_of, origin_of, origin_number, fact_at, entry_at, pair_at}
+use Rattle.table.specs.Format.{sizes_of, left, rules_from, kind_of, origin_of, origin_number, fact_at, entry_at, pair_at}
 use Rattle.table.specs.Refusals.{truncated, oversize, wrong_length, some_at_least, bad_fact, bad_left, bad_rule, bad_kind, out_of_range, section_from, section_size, left_from, section_left, section_right, rises, disorder, cycle, judgement_of, Legal}
 use Rattle.table.proofs.Legal.{Passed, passed, accepted, legal, Ranged, ranged, proper_theory, rule_below, no_cycle, left_in_lem}
 use Rattle.table.proofs.Sections.{no_disorder}

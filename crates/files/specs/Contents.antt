@@ -1,5 +1,5 @@
 -- Document 01, The table, and document 02, S-5: a content is what a table says, as it is listed; the file of a content in each edition.
-use Rattle.std.specs.Prelude.{ℕ, ◌+◌, ◌*◌, ◌/◌, ◌%◌, ◌<◌, ◌≡◌, false, List, [], ◌∷◌, ◌++◌, map, eqb, length, get_or}
+use Rattle.std.specs.Prelude.{ℕ, ◌+◌, ◌*◌, ◌/◌, ◌%◌, List, [], ◌∷◌, ◌++◌, map, eqb, length, get_or}
 use Rattle.logic.specs.Tests.{upto, pick}
 use Rattle.logic.specs.Theory as theory
 use Rattle.table.specs.declared.format.Sizes.{Sizes}

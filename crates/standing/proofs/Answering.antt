@@ -9,7 +9,6 @@ use Rattle.logic.specs.Theory.{body_of}
 use Rattle.logic.specs.Inference.{all_have, one_has}
 use Rattle.logic.specs.System.{held}
 use Rattle.logic.specs.Reading.{tagged_by}
-use Rattle.logic.specs.Standing as logic
 use Rattle.logic.specs.Standing.{first_fit}
 use Rattle.logic.proofs.Tests.{cond_false, cond_true}
 use Rattle.logic.proofs.Bodies.{all_same, one_same}

@@ -5,7 +5,7 @@ ghost use Rattle.standing.specs.Answers.{meant, numbers_of};
 
 use table::judge::Refusal;
 
-#[derive(Drop)]
+#[derive(Clone, Copy)]
 pub enum Standing {
     // All antecedents have +∂.
     Firing,
@@ -40,7 +40,7 @@ impl Standing {
     }
 }
 
-#[derive(Drop)]
+#[derive(Clone, Copy)]
 pub enum StandingAnswer {
     Refused(Refusal),
     Stands(Standing),
@@ -48,7 +48,7 @@ pub enum StandingAnswer {
 
 // An answer in numbers. A console written in C reads it as it stands.
 #[repr(C)]
-#[derive(Drop)]
+#[derive(Clone, Copy)]
 pub struct StandingNumbers {
     // 0, or the number of the refusal; then the other is 0
     pub refused: u32,

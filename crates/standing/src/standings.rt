@@ -10,7 +10,7 @@ use crate::marks::{has_line, is_marked, mark};
 use table::format::{Sizes, read_entry};
 
 // Marks of rules: of those with an antecedent that lacks +∂, and of those with one that has −∂.
-#[derive(Drop)]
+#[derive(Clone, Copy)]
 pub struct Standings {
     pub lacking: [u8; 1024],
     pub refuted: [u8; 1024],
