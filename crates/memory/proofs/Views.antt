@@ -8,7 +8,7 @@ use mathlib.Core.List.{List}
 use lib.Dec.{T, leb→le, ltb, ltb→lt, lt→ltb}
 use lib.ListN.{length, get_or, set, drop}
 use lib.Seq.{get_or-set_same, get_or-set_other, drop-set-lt}
-use Rattle.logic.specs.Tests.{◌and◌, ◌or◌}
+use Rattle.logic.specs.Tests.{◌and◌}
 use Rattle.logic.proofs.Tests.{and_intro, and_left, and_right, cond_false, cond_true, or_elim, test_cases}
 use Rattle.memory.specs.Layout.{field_count, field_size, uses_base, uses_size, memory_size}
 use Rattle.memory.specs.Fields.{size_f, beaten_f, uses_f, proved_f, rivals_end, in_index}

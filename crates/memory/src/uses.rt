@@ -12,7 +12,7 @@ use crate::words::{load, load_use};
 use table::format::Sizes;
 
 // Where the uses of a literal begin, and where they end.
-#[derive(Drop)]
+#[derive(Clone, Copy)]
 pub struct Uses {
     pub first: usize,
     pub end: usize,

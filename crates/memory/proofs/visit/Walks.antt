@@ -2,7 +2,7 @@
 use Prim.Native.Nat.{ℕ, ◌+◌, ◌-◌, ◌*◌, ◌≤◌, ◌<◌}
 use native.Mathlib.Omega.{arith}
 use mathlib.Core.Path.{◌≡◌, refl, sym, ◌∙◌, ap, subst}
-use mathlib.Core.Logic.{◌⊎◌, inl, ⊎_elim}
+use mathlib.Core.Logic.{inl, ⊎_elim}
 use mathlib.Core.Bool.{Bool, true, false}
 use mathlib.Core.List.{List}
 use lib.Dec.{T, ltb, eqb, eqb→eq, eqb_refl, ltb→lt, lt→ltb}
@@ -15,7 +15,7 @@ use Rattle.logic.proofs.Pigeon.{count_le}
 use Rattle.logic.proofs.Literals.{complement_complement}
 use Rattle.memory.specs.Layout.{tag_count, field_size, memory_size}
 use Rattle.memory.specs.Fields.{has, size_f, head_f, rivals_f, first_f, beaten_f, proved_f, rivals_end, counts_end, rivals_base, rivals_by, by_rival}
-use Rattle.memory.specs.Memory.{view, rivals_of, fires, NeverBothAt}
+use Rattle.memory.specs.Memory.{view, rivals_of, NeverBothAt}
 use Rattle.memory.specs.Visits.{WellFormed, Raised, reached, allowed, decided_for, notifies, notified_below, just_reached_by_rival, Open, Unchanged, Notified}
 use Rattle.memory.proofs.Views.{past_rule}
 use Rattle.memory.proofs.visit.Counts.{NotifiedTurns, Turns, counts_pair, decided_literal, decided_rule, notified_countered, notified_unopposed, reached_same}
