@@ -1,5 +1,5 @@
 -- Document 01, The rule of working, and its price: what a run answers, and what it leaves in the log and the scratch.
-use Rattle.std.specs.Prelude.{ℕ, ◌+◌, ◌*◌, ◌≡◌, cond, List, ◌++◌, ltb, length, drop, replicate}
+use Rattle.std.specs.Prelude.{ℕ, ◌*◌, ◌≡◌, cond, List, ◌++◌, ltb, length, drop, replicate}
 use Rattle.logic.specs.Theory.{Theory, size}
 use Rattle.logic.specs.Worklist.{Outcome, log_of, lines, worked, run}
 use Rattle.logic.specs.Plain.{plain_system, bound}

@@ -5,14 +5,14 @@ ghost use Rattle.engine.specs.Answers.{run_numbers, numbers_of};
 use table::judge::Refusal;
 
 // How many lines were written, how many of them were worked, and what was spent.
-#[derive(Drop)]
+#[derive(Clone, Copy)]
 pub struct Counts {
     pub lines: u32,
     pub worked: u32,
     pub spent: u32,
 }
 
-#[derive(Drop)]
+#[derive(Clone, Copy)]
 pub enum Answer {
     Refused(Refusal),
     Stopped(Counts),
@@ -21,7 +21,7 @@ pub enum Answer {
 
 // An answer in document 01's numbers. A console written in C reads it as it stands.
 #[repr(C)]
-#[derive(Drop)]
+#[derive(Clone, Copy)]
 pub struct Numbers {
     // 0, or the number of the refusal; then the other four are 0
     pub refused: u32,

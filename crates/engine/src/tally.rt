@@ -17,14 +17,14 @@ use memory::visit::add;
 use table::format::Sizes;
 
 // How many lines were processed, and what was spent.
-#[derive(Drop)]
+#[derive(Clone, Copy)]
 pub struct Tally {
     pub worked: u32,
     pub spent: u32,
 }
 
 // How many lines were written, and the tally.
-#[derive(Drop)]
+#[derive(Clone, Copy)]
 pub struct Progress {
     pub lines: u32,
     pub tally: Tally,

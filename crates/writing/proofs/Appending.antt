@@ -23,7 +23,6 @@ use Rattle.table.proofs.Legal.{limited}
 use Rattle.files.specs.Contents.{Row, kind_number, rule_row, bytes_of, marked}
 use Rattle.files.proofs.Reading.{bytes_length}
 use Rattle.writing.specs.declared.columns.Side.{Side}
-use Rattle.writing.specs.declared.columns.Side.TheVariants.{Left, Right}
 use Rattle.writing.specs.Columns.{word_in, with_words, column}
 
 -- a store past the end changes nothing

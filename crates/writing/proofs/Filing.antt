@@ -1,7 +1,7 @@
 -- The file of a content, as it is written. Assumes nothing.
 use Prim.Native.Nat.{ℕ, ◌+◌, ◌*◌, ◌≤◌}
 use native.Mathlib.Omega.{arith}
-use mathlib.Core.Path.{◌≡◌, refl, sym, ◌∙◌, ap, ap₂, subst}
+use mathlib.Core.Path.{◌≡◌, refl, sym, ◌∙◌, ap}
 use mathlib.Core.Bool.{false}
 use mathlib.Core.List.{List, [], ◌∷◌, ◌++◌, map, append_assoc}
 use lib.ListN.{length, length-append, length-map}
@@ -12,7 +12,7 @@ use Rattle.table.specs.declared.edition.Edition.TheVariants.{Old, Two}
 use Rattle.table.specs.Format.{span_of}
 use Rattle.table.specs.Refusals.{oversize}
 use Rattle.table.proofs.Legal.{limited}
-use Rattle.files.specs.Contents.{Content, sizes_for, Row, fact_row, rule_row, entry_row, pair_row, rows_of, words_of, bytes_of, marked, file_of}
+use Rattle.files.specs.Contents.{Content, sizes_for, fact_row, rule_row, entry_row, pair_row, rows_of, words_of, bytes_of, marked, file_of}
 use Rattle.writing.specs.declared.columns.Side.TheVariants.{Left, Right}
 use Rattle.writing.specs.Columns.{word_in, with_words}
 use Rattle.files.proofs.Reading.{file_length}

@@ -5,7 +5,7 @@ ghost use Rattle.writing.specs.Answers.{numbers_of};
 
 use table::judge::Refusal;
 
-#[derive(Drop)]
+#[derive(Clone, Copy)]
 pub enum Written {
     Refused(Refusal),
     // how many bytes the table has
@@ -21,7 +21,7 @@ pub fn refuse(refusal: Refusal, out: &mut [u8]) -> Written
 
 // An answer in numbers. A console written in C reads it as it stands.
 #[repr(C)]
-#[derive(Drop)]
+#[derive(Clone, Copy)]
 pub struct WrittenNumbers {
     // 0, or the number of the refusal; then the other is 0
     pub refused: u32,

@@ -12,7 +12,7 @@ use table::edition::Edition;
 use table::format::{Kind, Rule, Sizes, read_entry, read_pair, read_rule};
 
 // The two arrays of a table.
-#[derive(Drop)]
+#[derive(Clone, Copy)]
 pub enum Side {
     Left,
     Right,
