@@ -2,8 +2,7 @@
 use Prim.Native.Nat.{ℕ, ◌+◌, ◌-◌, ◌*◌, ◌≤◌, ◌<◌}
 use native.Mathlib.Nat.{zero-add, sub-zero}
 use native.Mathlib.Omega.{arith}
-use mathlib.Core.Path.{◌≡◌, refl, sym, ◌∙◌, ap, ap₂, subst}
-use mathlib.Core.Bool.{Bool}
+use mathlib.Core.Path.{◌≡◌, sym, ◌∙◌, ap, ap₂}
 use mathlib.Core.List.{List, ◌++◌, map, map-append, append_assoc}
 use lib.Dec.{eqb}
 use lib.ListN.{length, length-append, length-map}
@@ -13,9 +12,7 @@ use Rattle.logic.proofs.Lists.{member_upto, pick_same}
 use Rattle.logic.proofs.Sums.{count_upto}
 use Rattle.logic.proofs.Pigeon.{count_le}
 use Rattle.table.specs.declared.format.Sizes.{Sizes}
-use Rattle.table.specs.declared.format.Rule.{Rule}
 use Rattle.table.specs.declared.format.Entry.{Entry}
-use Rattle.table.specs.declared.format.Pair.{Pair}
 use Rattle.table.specs.Format.{rule_at, entry_at, pair_at, theory_in}
 use Rattle.table.specs.Refusals.{Legal}
 use Rattle.table.proofs.Legal.{limited}

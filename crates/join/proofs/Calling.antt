@@ -24,11 +24,10 @@ use Rattle.files.proofs.Saying.{said}
 use Rattle.writing.specs.declared.answer.Written.{Written}
 use Rattle.writing.specs.declared.answer.Written.TheVariants as written
 use Rattle.writing.specs.Answers.{numbers_of}
-use Rattle.writing.specs.Output.{answer_to, output_after, Wrote}
+use Rattle.writing.specs.Output.{Wrote}
 use Rattle.writing.proofs.Answering.{wrote_not, wrote_new}
 use Rattle.writing.proofs.Appending.{written_whole}
 use Rattle.joining.specs.Joining.{joined, joined_file}
-use Rattle.joining.specs.Prevailing.{Join}
 use Rattle.joining.proofs.Joins.{join_of}
 use Rattle.join.specs.declared.totals.Totals.{Totals}
 use Rattle.join.specs.Written.{Counts}

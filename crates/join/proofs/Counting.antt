@@ -1,25 +1,22 @@
 -- The sizes of the joined table, as they are counted. Assumes nothing.
 use Prim.Native.Nat.{ℕ, ◌+◌, ◌*◌, ◌≤◌, ◌<◌}
 use native.Mathlib.Omega.{arith}
-use mathlib.Core.Path.{◌≡◌, refl, sym, ◌∙◌, ap, ap₂, subst}
-use mathlib.Core.Bool.{Bool, false}
+use mathlib.Core.Path.{◌≡◌, sym, ◌∙◌, ap, ap₂}
 use mathlib.Core.List.{List}
-use borrow.Author.Tests.{le-ltb}
-use lib.Dec.{ltb, eqb}
-use lib.ListN.{length, get_or}
+use lib.Dec.{eqb}
+use lib.ListN.{get_or}
 use Rattle.logic.specs.Tests.{◌or◌, weigh, total, count_below}
 use Rattle.logic.specs.Theory.{complement, head_of, is_fact}
 use Rattle.logic.proofs.Sums.{total_ext, total_le, total_const}
 use Rattle.logic.proofs.Pigeon.{count_le}
 use Rattle.table.specs.declared.format.Sizes.{Sizes}
 use Rattle.table.specs.Format.{theory_in}
-use Rattle.table.specs.Refusals.{oversize, Legal}
+use Rattle.table.specs.Refusals.{Legal}
 use Rattle.table.proofs.Legal.{limited}
 use Rattle.standing.specs.Marks.{marked, MarkedBy}
 use Rattle.standing.proofs.Marking.{marked_by}
-use Rattle.files.specs.Contents.{content_in, sizes_for}
+use Rattle.files.specs.Contents.{content_in}
 use Rattle.joining.specs.Joining.{joined}
-use Rattle.join.specs.declared.totals.Totals.{Totals}
 use Rattle.join.specs.Heads.{with_head, Counted}
 use Rattle.join.specs.Written.{Counts}
 use Rattle.join.proofs.Heading.{against_small}

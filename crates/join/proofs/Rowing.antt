@@ -7,12 +7,10 @@ use mathlib.Core.Path.{◌≡◌, refl, sym, ◌∙◌, ap, ap₂, subst}
 use mathlib.Core.Bool.{Bool}
 use mathlib.Core.List.{List, ◌++◌, map, map-append, append_assoc}
 use lib.Dec.{eqb→eq}
-use lib.ListN.{length, get_or, length-append, length-map}
+use lib.ListN.{length, get_or, length-append}
 use Rattle.logic.specs.Tests.{upto, pick}
 use Rattle.logic.specs.Theory.{complement, head_of, superior}
-use Rattle.logic.proofs.Lists.{length_upto}
 use Rattle.table.specs.declared.format.Sizes.{Sizes}
-use Rattle.table.specs.declared.format.Pair.{Pair}
 use Rattle.table.specs.Format.{pair_at, theory_in}
 use Rattle.table.specs.Refusals.{Legal}
 use Rattle.files.specs.Contents.{Row, later_pair, pair_row, bytes_of}

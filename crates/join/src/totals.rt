@@ -14,7 +14,7 @@ use crate::heads::{added_pairs, head_counts};
 use table::format::Sizes;
 use values::{either, wide};
 
-#[derive(Drop)]
+#[derive(Clone, Copy)]
 pub struct Totals {
     pub facts: usize,
     pub rules: usize,

@@ -1,17 +1,16 @@
 -- What of a layout is a part's, section by section, and the words of its rows. Assumes nothing.
-use Prim.Native.Nat.{ℕ, zero, suc, ◌+◌, ◌*◌, ◌≤◌, ◌<◌}
+use Prim.Native.Nat.{ℕ, zero, suc, ◌*◌, ◌<◌}
 use native.Mathlib.Omega.{arith}
-use mathlib.Core.Path.{◌≡◌, refl, sym, ◌∙◌, ap, ap₂, subst}
+use mathlib.Core.Path.{◌≡◌, sym, ◌∙◌, ap, ap₂, subst}
 use mathlib.Core.Bool.{Bool}
 use mathlib.Core.List.{List}
 use denote.Enum.Declared
-use lib.Dec.{T, eqb}
-use lib.ListN.{length, get_or}
+use lib.Dec.{eqb}
+use lib.ListN.{get_or}
 use Rattle.logic.specs.Tests.{◌and◌}
-use Rattle.logic.specs.Theory.{atom, proper}
+use Rattle.logic.specs.Theory.{atom}
 use Rattle.logic.specs.Parts.{in_part}
 use Rattle.logic.proofs.Parts.{smallest_agrees}
-use Rattle.logic.proofs.Literals.{split_below}
 use Rattle.table.specs.declared.format.Sizes.{Sizes}
 use Rattle.table.specs.declared.format.Literal.{Literal}
 use Rattle.table.specs.declared.format.Rule.{Rule}
@@ -20,7 +19,7 @@ use Rattle.table.specs.declared.format.Pair.{Pair}
 use Rattle.table.specs.Format.{fact_at, rule_at, entry_at, pair_at, theory_in}
 use Rattle.table.specs.Refusals.{Legal}
 use Rattle.table.proofs.Legal.{limited, Ranged, ranged, right_in_lem, rule_below, head_below, stronger_below, weaker_below, proper_theory}
-use Rattle.files.specs.Contents.{content_in, fact_of, rule_of, entry_of, pair_of, fact_row, rule_row, Row}
+use Rattle.files.specs.Contents.{content_in, fact_row, rule_row}
 use Rattle.files.proofs.Saying.{fact_says, rule_says, entry_says, pair_says, theory_says}
 use Rattle.writing.specs.declared.columns.Side.{Side}
 use Rattle.writing.specs.Columns.{word_in}

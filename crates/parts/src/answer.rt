@@ -4,7 +4,7 @@ ghost use Rattle.parts.specs.Answers.{listing_number};
 
 use table::judge::Refusal;
 
-#[derive(Drop)]
+#[derive(Clone, Copy)]
 pub enum Listing {
     Refused(Refusal),
     Listed,

@@ -14,7 +14,7 @@ use table::format::{Literal, Sizes, read_entry, read_fact, read_pair, read_rule}
 use values::{add_if, both, wide};
 use writing::columns::{Side, left_of, put_if, word_in};
 
-#[derive(Drop)]
+#[derive(Clone, Copy)]
 pub enum Section {
     Facts,
     Rules,

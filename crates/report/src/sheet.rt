@@ -22,7 +22,7 @@ use table::format::{Literal, Sizes};
 use table::judge::Refusal;
 
 // A sheet: its bytes, and zeros past them. The longest has 5,041: 512 atoms that clash or are split, and five digits spent of five.
-#[derive(Drop)]
+#[derive(Clone, Copy)]
 pub struct Sheet {
     pub bytes: [u8; 5041],
     pub length: usize,

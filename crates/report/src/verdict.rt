@@ -13,7 +13,7 @@ use standing::marks::{has_line, is_marked};
 use table::format::Literal;
 use values::both;
 
-#[derive(Drop)]
+#[derive(Clone, Copy)]
 pub enum Verdict {
     Clash,
     Go,

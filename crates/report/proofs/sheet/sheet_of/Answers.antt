@@ -1,0 +1,7 @@
+-- `report::sheet::sheet_of` meets its contract. Assumes nothing.
+use Rattle.report.proofs.Running.{printed}
+use borrow.Author.Rules.{rules}
+use Rattle.report.proofs.sheet.sheet_of.Goals as goal
+
+pub returns : goal.returns
+returns c = printed c.args.table.now c.put_sheet-length.new.out c.put_sheet-length.result c.put_sheet-length.ensures
