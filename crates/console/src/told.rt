@@ -4,7 +4,7 @@ ghost use Rattle.console.specs.Told.{told_by};
 
 use table::edition::Edition;
 
-#[derive(Drop)]
+#[derive(Clone, Copy)]
 pub enum Told {
     Known(Edition),
     Unknown,

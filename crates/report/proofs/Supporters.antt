@@ -24,6 +24,10 @@ use Rattle.standing.proofs.Bodies.{stood_standing}
 use Rattle.standing.proofs.Answering.{standing_marked}
 use Rattle.report.specs.Printing.{live_supporter, has_live_supporter, Supported}
 
+-- how each rule stands by the marks of a log
+abbrev pub stands : List ℕ → List ℕ → ℕ → Standing
+stands lacking refuted r = first_fit (isnt (marked lacking r)) (marked refuted r)
+
 reordered : (a b c : Bool) → (b and (a and c)) ≡ ((a and b) and c)
 unfolding ◌and◌
 reordered true b c = refl

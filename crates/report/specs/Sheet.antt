@@ -1,6 +1,6 @@
 -- Document 01, The sheet: the bytes that are printed for a table, and what `sheet_of` hands over. "`sheet` reads the old layout" (document
 -- 02, S-5).
-use Rattle.std.specs.Prelude.{ℕ, zero, suc, ◌+◌, ◌-◌, ◌*◌, ◌≤◌, ◌≡◌, List, [], ◌++◌, T, length, take, replicate}
+use Rattle.std.specs.Prelude.{ℕ, zero, suc, ◌-◌, ◌*◌, ◌≤◌, ◌≡◌, List, [], ◌++◌, T, length, take, replicate}
 use Rattle.logic.specs.Theory.{Theory, size}
 use Rattle.logic.specs.System.{held}
 use Rattle.logic.specs.Worklist.{log_of}

@@ -5,7 +5,6 @@ use Rattle.report.specs.Text.{meant, decimal, space, word_of, newline}
 use Rattle.report.specs.Sheet.{atom_line}
 use Rattle.report.proofs.Lengths.{atom_parts}
 use Rattle.report.proofs.Puts.{room_left, put_put}
-use borrow.Author.Rules.{rules}
 use Rattle.report.proofs.sheet.put_atom.Goals as goal
 
 pub put_number-number-requires : goal.put_number-number-requires

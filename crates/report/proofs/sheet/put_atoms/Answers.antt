@@ -1,14 +1,12 @@
 -- `report::sheet::put_atoms` meets its contract. The loop's invariant: the lines of the atoms passed are put. Assumes nothing.
-use Prim.Native.Nat.{◌-◌, ◌*◌, ◌≤◌}
 use native.Mathlib.Omega.{arith}
-use mathlib.Core.Path.{◌≡◌, refl, ◌∙◌, ap, subst}
+use mathlib.Core.Path.{refl, ◌∙◌, ap, subst}
 use lib.ListN.{length}
 use Rattle.logic.specs.Theory.{atom}
 use Rattle.report.specs.Text.{meant}
 use Rattle.report.specs.Sheet.{atom_line, atom_lines}
 use Rattle.report.specs.Printing.{Put}
 use Rattle.report.proofs.Lengths.{verdicts_by, line_room, lines_none, lines_next, lines_end}
-use borrow.Author.Rules.{rules}
 use Rattle.report.proofs.sheet.put_atoms.Goals as goal
 
 pub loop-q-init : goal.loop-q-init

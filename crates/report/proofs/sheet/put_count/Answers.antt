@@ -5,7 +5,6 @@ use Rattle.report.specs.Text.{decimal, atoms_word, newline}
 use Rattle.report.specs.Sheet.{count_line}
 use Rattle.report.proofs.Lengths.{count_parts}
 use Rattle.report.proofs.Puts.{room_left, put_put}
-use borrow.Author.Rules.{rules}
 use Rattle.report.proofs.sheet.put_count.Goals as goal
 
 pub put-word-requires : goal.put-word-requires

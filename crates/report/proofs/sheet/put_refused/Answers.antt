@@ -1,7 +1,6 @@
 -- `report::sheet::put_refused` meets its contract. Assumes nothing.
 use native.Mathlib.Omega.{arith}
 use Rattle.report.proofs.Running.{number_length, put_refused_parts}
-use borrow.Author.Rules.{rules}
 use Rattle.report.proofs.sheet.put_refused.Goals as goal
 
 pub put_number-last-requires : goal.put_number-last-requires

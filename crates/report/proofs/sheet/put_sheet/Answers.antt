@@ -5,7 +5,6 @@ use lib.ListN.{length-replicate}
 use Rattle.table.specs.Format.{theory_in}
 use Rattle.report.specs.Printing.{Put}
 use Rattle.report.proofs.Running.{ran_sheet, ran_fits, refused_text, stopped_text, finished_text, stopped_fits, finished_fits}
-use borrow.Author.Rules.{rules}
 use Rattle.report.proofs.sheet.put_sheet.Goals as goal
 
 pub put_run-requires : goal.put_run-requires
@@ -27,9 +26,9 @@ put_run-requires-in-Finished c =
 pub returns-in-Refused : goal.returns-in-Refused
 returns-in-Refused c =
     let old = c.layout-old.result.now in let s = c.sizes_of-s.result in
-    subst (λ z. Put c.args.out.now 0 z c.Put-refused.new.0 c.Put-refused.result)
+    subst (λ z. Put c.args.out.now 0 z c.put_refused.new.out c.put_refused.result)
     (refused_text (theory_in old s) c.bound_of-most.result c.run.new.log c.run.result _ c.in-Refused.is ∙ ran_sheet c.run.result (length-replicate {A = ℕ} 2048 0) (length-replicate {A = ℕ} 32768 0) c.args.table.now c.run.ensures old c.layout-old.ensures s c.sizes_of-s.ensures c.bound_of-most.ensures)
-    c.Put-refused.ensures
+    c.put_refused.ensures
 
 pub returns-in-Stopped : goal.returns-in-Stopped
 returns-in-Stopped c =

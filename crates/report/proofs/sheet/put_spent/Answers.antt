@@ -5,7 +5,6 @@ use Rattle.report.specs.Text.{decimal, spent_word, of_word, newline}
 use Rattle.report.specs.Sheet.{spent_line}
 use Rattle.report.proofs.Lengths.{spent_parts}
 use Rattle.report.proofs.Puts.{room_left, put_put}
-use borrow.Author.Rules.{rules}
 use Rattle.report.proofs.sheet.put_spent.Goals as goal
 
 pub put-word-requires : goal.put-word-requires

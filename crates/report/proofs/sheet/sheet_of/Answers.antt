@@ -1,6 +1,5 @@
 -- `report::sheet::sheet_of` meets its contract. Assumes nothing.
 use Rattle.report.proofs.Running.{printed}
-use borrow.Author.Rules.{rules}
 use Rattle.report.proofs.sheet.sheet_of.Goals as goal
 
 pub returns : goal.returns

@@ -3,7 +3,6 @@ use mathlib.Core.Path.{ap}
 use Rattle.logic.specs.Theory.{can_support}
 use Rattle.table.specs.Format.{kind_meant}
 use Rattle.table.proofs.Matching.{kind_at, kind_at_lem}
-use borrow.Author.Rules.{rules}
 use Rattle.report.proofs.support.can_support.Goals as goal
 
 pub returns-in-Strict : goal.returns-in-Strict

@@ -2,7 +2,6 @@
 use mathlib.Core.Path.{sym, ap}
 use Rattle.logic.specs.Standing.{is_out}
 use Rattle.standing.proofs.Numbering.{meant_at, standing_at}
-use borrow.Author.Rules.{rules}
 use Rattle.report.proofs.support.is_out.Goals as goal
 
 pub returns-in-Firing : goal.returns-in-Firing

@@ -1,22 +1,13 @@
 -- `report::support::supported_by` meets its contract. The loop's invariant: what the rules passed say of each literal. Assumes nothing.
-use Prim.Native.Nat.{ℕ, ◌-◌, ◌≤◌}
 use native.Mathlib.Omega.{arith}
 use native.Mathlib.Nat.{le_antisymm}
 use mathlib.Core.Path.{◌∙◌, ap}
-use mathlib.Core.List.{List}
-use Rattle.logic.specs.Tests.{isnt, some}
-use Rattle.logic.specs.Standing.{Standing, first_fit, is_out}
+use Rattle.logic.specs.Standing.{is_out}
 use Rattle.table.specs.Format.{theory_in}
-use Rattle.standing.specs.Marks.{marked, MarkedBy}
 use Rattle.standing.proofs.Marking.{some_marked_next, some_marked_none}
 use Rattle.report.specs.Printing.{live_supporter}
-use Rattle.report.proofs.Supporters.{live_supporter_read, all_supported}
-use borrow.Author.Rules.{rules}
+use Rattle.report.proofs.Supporters.{stands, live_supporter_read, all_supported}
 use Rattle.report.proofs.support.supported_by.Goals as goal
-
--- how each rule stands
-abbrev stands : List ℕ → List ℕ → ℕ → Standing
-stands lacking refuted r = first_fit (isnt (marked lacking r)) (marked refuted r)
 
 pub loop-r-init : goal.loop-r-init
 loop-r-init c =

@@ -1,21 +1,14 @@
 -- `report::support::supported_by` meets its contract. The loop's invariant: what the rules passed say of each literal. Assumes nothing.
-use Prim.Native.Nat.{ℕ, ◌-◌, ◌≤◌}
-use native.Mathlib.Omega.{arith}
-use native.Mathlib.Nat.{le_antisymm}
-use mathlib.Core.Path.{◌∙◌, ap}
-use mathlib.Core.List.{List}
-use Rattle.logic.specs.Tests.{isnt, some}
-use Rattle.logic.specs.Standing.{Standing, first_fit, is_out}
+use Prim.Native.Nat.{◌-◌, ◌≤◌}
+use Rattle.logic.specs.Tests.{some}
 use Rattle.table.specs.Format.{theory_in}
-use Rattle.standing.specs.Marks.{marked, MarkedBy}
-use Rattle.standing.proofs.Marking.{some_marked_next, some_marked_none}
+use Rattle.standing.specs.Marks.{MarkedBy}
 use Rattle.report.specs.Printing.{live_supporter}
-use Rattle.report.proofs.Supporters.{live_supporter_read, all_supported}
-use borrow.Author.Rules.{rules}
+use Rattle.report.proofs.Supporters.{stands}
 use Rattle.report.proofs.support.supported_by.Given as goal
 
 abbrev pub invariant-loop-r : goal.invariant-loop-r
-invariant-loop-r l = 
+invariant-loop-r l =
     (l.r ≤ l.s.rules) × MarkedBy (λ q. some l.r (live_supporter (theory_in l.layout l.s) (stands l.lacking l.refuted) q)) 1024 l.supported
 
 abbrev pub decreases-loop-r : goal.decreases-loop-r

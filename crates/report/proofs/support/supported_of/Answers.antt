@@ -1,6 +1,5 @@
 -- `report::support::supported_of` meets its contract. Assumes nothing.
 use Rattle.report.proofs.Supporters.{supported_stood}
-use borrow.Author.Rules.{rules}
 use Rattle.report.proofs.support.supported_of.Goals as goal
 
 pub returns : goal.returns

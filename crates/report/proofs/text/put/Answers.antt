@@ -1,5 +1,5 @@
 -- `report::text::put` meets its contract. The loop's invariant: the bytes passed are copied. Assumes nothing.
-use Prim.Native.Nat.{ℕ, ◌+◌, ◌-◌, ◌≤◌}
+use Prim.Native.Nat.{ℕ, ◌+◌}
 use native.Mathlib.Numerals.{add-one}
 use native.Mathlib.Omega.{arith}
 use mathlib.Core.Path.{◌≡◌, refl, ◌∙◌, ap, sym}
@@ -7,9 +7,6 @@ use mathlib.Core.List.{List}
 use lib.ListN.{length, set, get_or, length-set}
 use lib.Seq.{paste, paste-zero, paste-suc}
 use Rattle.report.proofs.Puts.{put_pasted}
-use borrow.Author.Rules.{rules}
-use Rattle.report.proofs.text.put.Reads as reads
-use Rattle.report.proofs.text.put.Lts as lts
 use Rattle.report.proofs.text.put.Goals as goal
 
 pub loop-i-init : goal.loop-i-init

@@ -1,10 +1,6 @@
 -- `report::text::put_digit` meets its contract. Assumes nothing.
 use native.Mathlib.Omega.{arith}
 use Rattle.report.proofs.Puts.{put_one}
-use borrow.Author.Rules.{rules}
-use Rattle.report.proofs.text.put_digit.Reads as reads
-use Rattle.report.proofs.text.put_digit.Lts as lts
-use Rattle.report.proofs.text.ascii.Reads as ascii-reads
 use Rattle.report.proofs.text.put_digit.Goals as goal
 
 pub returns : goal.returns

@@ -3,7 +3,6 @@ use mathlib.Core.Path.{◌∙◌}
 use Rattle.logic.specs.Reading.{tagged_by}
 use Rattle.standing.specs.Marks.{marked}
 use Rattle.report.proofs.Verdicts.{verdict_by_lem}
-use borrow.Author.Rules.{rules}
 use Rattle.report.proofs.verdict.verdict_of.Goals as goal
 
 pub returns : goal.returns
