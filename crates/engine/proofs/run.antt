@@ -3,6 +3,5 @@ pub mod Trying
 pub mod Users
 pub mod Opening
 pub mod Tallies
-pub mod Machine
 pub mod Worklist
 pub mod Answering
