@@ -1,5 +1,5 @@
 // What came beside what was wanted: a difference where the two are not equal.
-use libc::STDOUT_FILENO;
+use std::io;
 
 // What is compared, by its place among the names.
 pub const JUDGED: usize = 0;
@@ -45,11 +45,32 @@ const CAME: usize = 19;
 const WANTED: usize = 20;
 
 // 9 bytes each.
-const NAMES: [u8; 189] =
-    *b"   judged  refused finished    lines   worked    spent   length      log  scratch     byte     fact     kind   origin     head     rule  literal stronger   weaker     list     came   wanted";
+const NAMES: [&str; 21] = [
+    "   judged",
+    "  refused",
+    " finished",
+    "    lines",
+    "   worked",
+    "    spent",
+    "   length",
+    "      log",
+    "  scratch",
+    "     byte",
+    "     fact",
+    "     kind",
+    "   origin",
+    "     head",
+    "     rule",
+    "  literal",
+    " stronger",
+    "   weaker",
+    "     list",
+    "     came",
+    "   wanted",
+];
 
 // The place is the index of a word or a byte, 0 for a number.
-#[derive(Drop)]
+#[derive(Clone, Copy)]
 pub struct Difference {
     pub what: usize,
     pub place: usize,
@@ -58,17 +79,13 @@ pub struct Difference {
 }
 
 // A text, a space and a number.
-pub fn print_number(text: &[u8], n: usize) {
-    io::write_all(STDOUT_FILENO, text);
-    io::write_all(STDOUT_FILENO, b" ");
-    io::print_decimal(STDOUT_FILENO, n as u64);
+pub fn print_number(rt: &impl Print, text: &str, n: usize) -> io::Result<()> {
+    print!(rt; "{text} {n}")
 }
 
-fn print_named(name: usize, n: usize) {
+fn print_named(rt: &impl Print, name: usize, n: usize) -> io::Result<()> {
     let names = NAMES;
-    let from = 9 * (name % 21);
-    let to = from + 9;
-    print_number(&names[from..to], n);
+    print_number(rt, names[name % 21], n)
 }
 
 impl Difference {
@@ -87,15 +104,15 @@ impl Difference {
     }
 
     // Whether nothing differs. If something does, a line says what.
-    pub fn is_none(self, file: &[u8], record: u32) -> bool {
+    pub fn is_none(self, rt: &impl Print, file: &str, record: u32) -> io::Result<bool> {
         if self.came == self.wanted {
-            return true;
+            return Ok(true);
         }
-        print_number(file, record as usize);
-        print_named(self.what, self.place);
-        print_named(CAME, self.came as usize);
-        print_named(WANTED, self.wanted as usize);
-        io::write_all(STDOUT_FILENO, b"\n");
-        false
+        print_number(rt, file, record as usize)?;
+        print_named(rt, self.what, self.place)?;
+        print_named(rt, CAME, self.came as usize)?;
+        print_named(rt, WANTED, self.wanted as usize)?;
+        println!(rt)?;
+        Ok(false)
     }
 }

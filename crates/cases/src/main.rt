@@ -13,14 +13,16 @@ mod runs;
 mod stream;
 
 use difference::print_number;
-use libc::STDOUT_FILENO;
+use std::io::ErrorKind;
+use std::rt::Files;
+use std::{fs, io};
 use table::edition::Edition;
 
 // More records than any file has.
 const LIMIT: u32 = 65536;
 
 // How the records of a file are laid out.
-#[derive(Drop)]
+#[derive(Clone, Copy)]
 pub enum Layout {
     Base,
     Runs,
@@ -35,66 +37,86 @@ pub enum Layout {
 }
 
 // Whether a record, whose table, or house, has n bytes, gives what it must.
-fn is_same(file: &[u8], layout: Layout, fd: i32, record: u32, n: u32) -> bool {
-    let buffer = stream::bytes(fd, n);
+fn is_same(
+    rt: &impl Print,
+    file: &str,
+    layout: Layout,
+    rest: &mut &[u8],
+    record: u32,
+    n: u32,
+) -> io::Result<bool> {
+    let buffer = stream::bytes(rest, n);
     let table = stream::front(&buffer, n);
     let d = match layout {
-        Layout::Base => records::base_differs(fd, record, table),
-        Layout::Runs => records::fields_differ(fd, record, table, Edition::Old),
-        Layout::Told => records::told_differ(fd, record, table),
-        Layout::Bodies => records::body_differs(fd, table),
-        Layout::Readers => readers::readers_differ(fd, table),
-        Layout::Sheets => records::sheet_differs(fd, table),
-        Layout::Conversions => records::conversion_differs(fd, record, table),
-        Layout::Joins => joins::join_differs(fd, record, table),
-        Layout::Lists => parted::list_differs(fd, record, table),
-        Layout::Parts => parted::part_differs(fd, record, table),
+        Layout::Base => records::base_differs(rest, record, table),
+        Layout::Runs => records::fields_differ(rest, record, table, Edition::Old),
+        Layout::Told => records::told_differ(rest, record, table),
+        Layout::Bodies => records::body_differs(rest, table),
+        Layout::Readers => readers::readers_differ(rest, table),
+        Layout::Sheets => records::sheet_differs(rest, table),
+        Layout::Conversions => records::conversion_differs(rest, record, table),
+        Layout::Joins => joins::join_differs(rest, record, table),
+        Layout::Lists => parted::list_differs(rest, record, table),
+        Layout::Parts => parted::part_differs(rest, record, table),
     };
-    d.is_none(file, record)
+    d.is_none(rt, file, record)
 }
 
-fn print_counts(file: &[u8], records: u32, same: u32) {
-    print_number(file, records as usize);
-    print_number(b" same", same as usize);
-    io::write_all(STDOUT_FILENO, b"\n");
+fn print_counts(rt: &impl Print, file: &str, records: u32, same: u32) -> io::Result<()> {
+    print_number(rt, file, records as usize)?;
+    print_number(rt, " same", same as usize)?;
+    println!(rt)
+}
+
+// The bytes of a data file, none where there is no such file.
+fn bytes_of(rt: &(impl Files + AllocGlobal), file: &str) -> io::Result<Vec<u8>> {
+    match fs::read(rt, file) {
+        Err(e) if e.kind() == ErrorKind::NotFound => Ok(Vec::new(rt.alloc())),
+        read => read,
+    }
 }
 
 // The count of a record's table has four bytes where it is wide, else two. A file that is not there has no records.
-fn try_file(file: &[u8], layout: Layout, wide: bool) {
-    let fd = os::open_read(file);
+fn try_file(
+    rt: &(impl Files + AllocGlobal + Print),
+    file: &str,
+    layout: Layout,
+    wide: bool,
+) -> io::Result<()> {
+    let bytes = bytes_of(rt, file)?;
+    let mut rest = bytes.as_slice();
     let mut same: u32 = 0;
     let mut i: u32 = 0;
     while i < LIMIT {
         let n = if wide {
-            stream::long(fd)
+            stream::long(&mut rest)
         } else {
-            stream::word(fd) as u32
+            stream::word(&mut rest) as u32
         };
         if stream::END <= n {
             break;
         }
-        let it = is_same(file, layout, fd, i, n);
-        same = std::num::wrapping_add_u32(same, it as u32);
+        let it = is_same(rt, file, layout, &mut rest, i, n)?;
+        same = same.wrapping_add(it as u32);
         i += 1;
     }
-    libc::close(fd);
-    print_counts(file, i, same);
+    print_counts(rt, file, i, same)
 }
 
-fn main() {
-    try_file(b"base.bin", Layout::Base, false);
-    try_file(b"made.bin", Layout::Runs, true);
-    try_file(b"short-logs.bin", Layout::Runs, true);
-    try_file(b"told.bin", Layout::Told, true);
-    try_file(b"bodies.bin", Layout::Bodies, true);
-    try_file(b"readers.bin", Layout::Readers, true);
-    try_file(b"sheets-S6.bin", Layout::Sheets, true);
-    try_file(b"longest.bin", Layout::Sheets, true);
-    try_file(b"editions.bin", Layout::Conversions, true);
-    try_file(b"conversions.bin", Layout::Conversions, true);
-    try_file(b"joins.bin", Layout::Joins, true);
-    try_file(b"parts.bin", Layout::Lists, true);
-    try_file(b"lists.bin", Layout::Lists, true);
-    try_file(b"part-tables.bin", Layout::Parts, true);
-    try_file(b"parted.bin", Layout::Parts, true);
+fn main(rt: HostRuntime) -> io::Result<()> {
+    try_file(&rt, "base.bin", Layout::Base, false)?;
+    try_file(&rt, "made.bin", Layout::Runs, true)?;
+    try_file(&rt, "short-logs.bin", Layout::Runs, true)?;
+    try_file(&rt, "told.bin", Layout::Told, true)?;
+    try_file(&rt, "bodies.bin", Layout::Bodies, true)?;
+    try_file(&rt, "readers.bin", Layout::Readers, true)?;
+    try_file(&rt, "sheets-S6.bin", Layout::Sheets, true)?;
+    try_file(&rt, "longest.bin", Layout::Sheets, true)?;
+    try_file(&rt, "editions.bin", Layout::Conversions, true)?;
+    try_file(&rt, "conversions.bin", Layout::Conversions, true)?;
+    try_file(&rt, "joins.bin", Layout::Joins, true)?;
+    try_file(&rt, "parts.bin", Layout::Lists, true)?;
+    try_file(&rt, "lists.bin", Layout::Lists, true)?;
+    try_file(&rt, "part-tables.bin", Layout::Parts, true)?;
+    try_file(&rt, "parted.bin", Layout::Parts, true)
 }

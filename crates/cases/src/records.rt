@@ -11,10 +11,10 @@ use writing::answer::Written;
 
 // base.bin: u32 budget, u16 answer (0 finished, 255 stopped, else the number of a refusal), u16 lines, u16 worked, u32 spent, `lines`
 // words of log. The buffers are long enough.
-pub fn base_differs(fd: i32, record: u32, table: &[u8]) -> Difference {
-    let budget = long(fd);
-    let answer = word(fd) as u32;
-    let lines = word(fd) as u32;
+pub fn base_differs(rest: &mut &[u8], record: u32, table: &[u8]) -> Difference {
+    let budget = long(rest);
+    let answer = word(rest) as u32;
+    let lines = word(rest) as u32;
     let want = Run {
         edition: Edition::Old,
         budget,
@@ -23,42 +23,42 @@ pub fn base_differs(fd: i32, record: u32, table: &[u8]) -> Difference {
         refused: answer % 255,
         finished: (answer == 0) as u32,
         lines,
-        worked: word(fd) as u32,
-        spent: long(fd),
+        worked: word(rest) as u32,
+        spent: long(rest),
         words: lines,
     };
-    run_differs(fd, record, table, want)
+    run_differs(rest, record, table, want)
 }
 
 // made.bin and short-logs.bin: the fields of a run, and the log.
-pub fn fields_differ(fd: i32, record: u32, table: &[u8], edition: Edition) -> Difference {
+pub fn fields_differ(rest: &mut &[u8], record: u32, table: &[u8], edition: Edition) -> Difference {
     let want = Run {
         edition,
-        budget: number(fd),
-        log: number(fd),
-        scratch: number(fd),
-        refused: number(fd),
-        finished: number(fd),
-        lines: number(fd),
-        worked: number(fd),
-        spent: number(fd),
-        words: long(fd) / 2,
+        budget: number(rest),
+        log: number(rest),
+        scratch: number(rest),
+        refused: number(rest),
+        finished: number(rest),
+        lines: number(rest),
+        worked: number(rest),
+        spent: number(rest),
+        words: long(rest) / 2,
     };
-    run_differs(fd, record, table, want)
+    run_differs(rest, record, table, want)
 }
 
 // A field that is the number of an edition.
-pub fn told_edition(fd: i32) -> Edition {
-    match number(fd) {
+pub fn told_edition(rest: &mut &[u8]) -> Edition {
+    match number(rest) {
         1 => Edition::Old,
         _ => Edition::Two,
     }
 }
 
 // told.bin: the edition, and the same.
-pub fn told_differ(fd: i32, record: u32, table: &[u8]) -> Difference {
-    let edition = told_edition(fd);
-    fields_differ(fd, record, table, edition)
+pub fn told_differ(rest: &mut &[u8], record: u32, table: &[u8]) -> Difference {
+    let edition = told_edition(rest);
+    fields_differ(rest, record, table, edition)
 }
 
 fn byte_of(bytes: &[u8], i: usize) -> u8 {
@@ -88,20 +88,20 @@ fn text_differs(came: &[u8], length: usize, text: &[u8; 65536], n: u32) -> Diffe
 }
 
 // The edition, the rule, and the bytes of its body.
-pub fn body_differs(fd: i32, table: &[u8]) -> Difference {
-    let edition = told_edition(fd);
-    let came = body(table, edition, number(fd) as usize);
-    let n = long(fd);
-    let text = bytes(fd, n);
+pub fn body_differs(rest: &mut &[u8], table: &[u8]) -> Difference {
+    let edition = told_edition(rest);
+    let came = body(table, edition, number(rest) as usize);
+    let n = long(rest);
+    let text = bytes(rest, n);
     text_differs(came, came.len(), &text, n)
 }
 
 // The text of the sheet.
-pub fn sheet_differs(fd: i32, table: &[u8]) -> Difference {
+pub fn sheet_differs(rest: &mut &[u8], table: &[u8]) -> Difference {
     let sheet = sheet_of(table);
     let came = sheet.bytes;
-    let n = long(fd);
-    let text = bytes(fd, n);
+    let n = long(rest);
+    let text = bytes(rest, n);
     text_differs(&came, sheet.length, &text, n)
 }
 
@@ -125,13 +125,13 @@ pub fn written_differs(
 
 // editions.bin and conversions.bin: the edition, how many bytes of output are borrowed, the refusal, and the new file, past which the
 // output is as it was.
-pub fn conversion_differs(fd: i32, record: u32, table: &[u8]) -> Difference {
-    let edition = told_edition(fd);
-    let k = (number(fd) % 65536) as usize;
-    let refused = number(fd);
-    let n = long(fd);
+pub fn conversion_differs(rest: &mut &[u8], record: u32, table: &[u8]) -> Difference {
+    let edition = told_edition(rest);
+    let k = (number(rest) % 65536) as usize;
+    let refused = number(rest);
+    let n = long(rest);
     let mut out = noisy_bytes(record);
-    let wanted = bytes_over(out, fd, n);
+    let wanted = bytes_over(out, rest, n);
     let answer = convert(table, edition, &mut out[0..k]);
     written_differs(answer, refused, n, &out, &wanted)
 }

@@ -11,7 +11,7 @@ use table::judge::{Judgement, judge};
 
 // A run: the edition, the budget and how many words of log and of scratch are borrowed; what must come out, the number of the refusal or
 // 0, 1 where the run finishes, and the counts; and how many words of log follow in the file.
-#[derive(Drop)]
+#[derive(Clone, Copy)]
 pub struct Run {
     pub edition: Edition,
     pub budget: u32,
@@ -50,14 +50,14 @@ fn compare_numbers(judged: u32, came: Numbers, want: Run) -> Difference {
 }
 
 // What a word must be: the next word of the file in a log or a list, 0 in the scratch, and noise past the first n words.
-fn wanted(what: usize, fd: i32, n: u32, seed: u32, i: usize) -> u16 {
+fn wanted(what: usize, rest: &mut &[u8], n: u32, seed: u32, i: usize) -> u16 {
     if n as usize <= i {
         return noise(seed, i);
     }
     if what == SCRATCH {
         return 0;
     }
-    word(fd)
+    word(rest)
 }
 
 fn wide(word: u16) -> u32 {
@@ -68,14 +68,19 @@ pub fn compare_words(
     d: Difference,
     what: usize,
     words: &[u16; 65536],
-    fd: i32,
+    rest: &mut &[u8],
     n: u32,
     seed: u32,
 ) -> Difference {
     let mut d = d;
     let mut i: usize = 0;
     while i < 65536 {
-        d = d.or(what, i, wide(words[i]), wanted(what, fd, n, seed, i) as u32);
+        d = d.or(
+            what,
+            i,
+            wide(words[i]),
+            wanted(what, rest, n, seed, i) as u32,
+        );
         i += 1;
     }
     d
@@ -90,7 +95,7 @@ fn cleared(refused: u32) -> u32 {
 }
 
 // The first difference of a run.
-pub fn run_differs(fd: i32, record: u32, table: &[u8], want: Run) -> Difference {
+pub fn run_differs(rest: &mut &[u8], record: u32, table: &[u8], want: Run) -> Difference {
     let log_seed = record % 32768;
     let scratch_seed = log_seed + 32768;
     let mut log = noisy(log_seed);
@@ -106,12 +111,12 @@ pub fn run_differs(fd: i32, record: u32, table: &[u8], want: Run) -> Difference 
         &mut scratch[0..k],
     );
     let d = compare_numbers(judged(table, edition), answer.numbers(), want);
-    let d = compare_words(d, LOG, &log, fd, want.words, log_seed);
+    let d = compare_words(d, LOG, &log, rest, want.words, log_seed);
     compare_words(
         d,
         SCRATCH,
         &scratch,
-        fd,
+        rest,
         cleared(want.refused),
         scratch_seed,
     )

@@ -2,13 +2,16 @@
 #![tactic(auto)]
 
 use report::sheet::sheet_of;
+use std::io;
+use std::io::{Read, Write};
 use table::format::Sizes;
 
-fn main() {
-    let mut input = [0u8; Sizes::MAX_BYTES + 1];
-    let n = io::read_full(0, &mut input);
-    let sheet = sheet_of(&input[..n]);
+fn main(rt: HostRuntime) -> io::Result<()> {
+    let most = Sizes::MAX_BYTES + 1;
+    let mut input = Vec::new(rt.alloc());
+    rt.reader().take(most as u64).read_to_end(&mut input)?;
+    let sheet = sheet_of(&input);
     let bytes = sheet.bytes;
     let length = sheet.length;
-    io::write_all(1, &bytes[..length]);
+    io::writer(&rt).write_all(&bytes[..length])
 }
