@@ -104,7 +104,7 @@ fn notify(mem: &mut [u16], q: usize, x: usize, t: usize)
 // Every rule that rule r is over is notified.
 fn walk(table: &[u8], s: Sizes, mem: &mut [u16], r: usize, t: usize)
     requires well_formed { WellFormed (theory_in table.now s) × (r < s.rules) × (2 ≤ t) × (t < tag_count) × T (can_support (kind_of (theory_in table.now s) r)) }
-    requires t { T (reached (view mem.old) t r) × Open (theory_in table.now s) mem.old (decided_for (view mem.old)) (notified_below (theory_in table.now s) (view mem.old) t r 0) }
+    requires reached { T (reached (view mem.old) t r) × Open (theory_in table.now s) mem.old (decided_for (view mem.old)) (notified_below (theory_in table.now s) (view mem.old) t r 0) }
     requires r_lt_field_size { (r < field_size) × (memory_size ≤ length mem.old) }
     ensures { Unchanged mem.old mem.new × Open (theory_in table.now s) mem.new (decided_for (view mem.new)) (notifies (theory_in table.now s) (view mem.new)) }
 {

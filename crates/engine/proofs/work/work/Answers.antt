@@ -1,10 +1,9 @@
--- `engine::work::work` meets its contract. The loop's invariant: what is left of the run from here is what was left at the start.
+-- `engine::work::work` meets its contract. The loop's invariant: what is left of the run from here is what was left at the start. The
+-- measure is the number of lines that there can be, less those processed. Assumes nothing.
 use native.Mathlib.Omega.{arith}
 use Rattle.engine.proofs.run.Trying.{atoms_in, lines_most, proper_in}
 use Rattle.engine.proofs.run.Worklist.{stands_asks, stands_done, stands_less, stands_next, stands_start, stands_stopped}
 use Rattle.engine.proofs.work.work.Goals as goal
-
--- The measure is the number of lines that there can be, less those processed. Assumes nothing.
 
 pub loop-at-init : goal.loop-at-init
 loop-at-init c =

@@ -12,7 +12,6 @@ use Rattle.memory.proofs.visit.Accepted.{bump_asks, definite_asks, propagate_ask
 use Rattle.memory.proofs.index.Starting.{first_asks, second_asks, started_next}
 use Rattle.memory.proofs.prepare.start_rule.Goals as goal
 
--- the call, its rule, and the words of the memory once the rule is visited
 pub visit_definite-requires : goal.visit_definite-requires
 visit_definite-requires c =
     let h = (definite_asks _ _ _ _ _ (first_asks _ _ _ c.requires.0 c.requires.1 c.requires.2) (omega arith)) in record { well_formed = h.0; r_lt_field_size = h.1 }

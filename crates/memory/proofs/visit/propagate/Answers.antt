@@ -9,7 +9,6 @@ unfolding theory_in
 count_decided-requires c =
     let h = (count_asks _ _ _ _ (c.requires.well_formed, c.requires.r_lt_field_size)) in record { r_lt_field_size = h.0; r_bound = h.1 }
 
--- the call
 pub returns-then-not-count_decided : goal.returns-then-not-count_decided
 unfolding theory_in
 returns-then-not-count_decided c = propagate_end _ _ _ _ (c.requires.well_formed, c.requires.r_lt_field_size) _ c.count_decided.ensures c.if-not-count_decided.true
@@ -17,12 +16,12 @@ returns-then-not-count_decided c = propagate_end _ _ _ _ (c.requires.well_formed
 pub walk-requires : goal.walk-requires
 unfolding theory_in
 walk-requires c =
-    let h = (propagate_walk _ _ _ _ (c.requires.well_formed, c.requires.r_lt_field_size) _ c.count_decided.ensures 2 c.if-t-eq2.true c.if-not-count_decided.false) in record { well_formed = h.0; t = h.1.0; r_lt_field_size = h.1.1 }
+    let h = (propagate_walk _ _ _ _ (c.requires.well_formed, c.requires.r_lt_field_size) _ c.count_decided.ensures 2 c.if-t-eq2.true c.if-not-count_decided.false) in record { well_formed = h.0; reached = h.1.0; r_lt_field_size = h.1.1 }
 
 pub walk-requires-else-t-eq2 : goal.walk-requires-else-t-eq2
 unfolding theory_in
 walk-requires-else-t-eq2 c =
-    let h = (propagate_walk _ _ _ _ (c.requires.well_formed, c.requires.r_lt_field_size) _ c.count_decided.ensures 3 (omega (arith, c.if-t-eq2.false, c.requires.well_formed.3, c.requires.well_formed.4)) c.if-not-count_decided.false) in record { well_formed = h.0; t = h.1.0; r_lt_field_size = h.1.1 }
+    let h = (propagate_walk _ _ _ _ (c.requires.well_formed, c.requires.r_lt_field_size) _ c.count_decided.ensures 3 (omega (arith, c.if-t-eq2.false, c.requires.well_formed.3, c.requires.well_formed.4)) c.if-not-count_decided.false) in record { well_formed = h.0; reached = h.1.0; r_lt_field_size = h.1.1 }
 
 pub returns-then-t-eq2 : goal.returns-then-t-eq2
 unfolding theory_in

@@ -8,7 +8,7 @@ use Rattle.memory.proofs.visit.walk.Goals as goal
 
 pub loop-i-init : goal.loop-i-init
 loop-i-init c =
-    walk_start _ _ _ _ _ c.requires.t.0 c.requires.t.1 (c.wide-i.ensures ∙ c.load-2.ensures)
+    walk_start _ _ _ _ _ c.requires.reached.0 c.requires.reached.1 (c.wide-i.ensures ∙ c.load-2.ensures)
 
 pub returns-then-wide-r : goal.returns-then-wide-r
 unfolding theory_in
@@ -31,7 +31,7 @@ loop-i-preserved c =
     turn_next _ c.requires.well_formed.0 _ _ _ _ _ c.loop-i.invariant _ c.requires.well_formed.2 c.requires.well_formed.3 (omega (arith, c.loop-i-test.true, c.wide-n.ensures))
     (sym (strong_read _ _ _ _ c.read_pair-p.ensures) ∙ sym c.wide.ensures ∙ c.if-wide-r.false)
     (c.wide-in-loop-i.ensures ∙ weak_read _ _ _ _ c.read_pair-p.ensures) c.requires.well_formed.4 _
-    (opposite_is _ _ _ _ _ _ _ _ c.requires.t.1 c.requires.well_formed.1 c.load.ensures c.complement-opposite.ensures c.wide-q.ensures) _
+    (opposite_is _ _ _ _ _ _ _ _ c.requires.reached.1 c.requires.well_formed.1 c.load.ensures c.complement-opposite.ensures c.wide-q.ensures) _
     c.notify.ensures
 
 pub returns : goal.returns

@@ -7,7 +7,6 @@ use Rattle.report.proofs.Lengths.{verdicts_by, count_length, spent_length, lines
 use borrow.Author.Rules.{rules}
 use Rattle.report.proofs.sheet.put_run.Goals as goal
 
--- the lines are there
 pub slice_bounds-marks_of-end : goal.slice_bounds-marks_of-end
 slice_bounds-marks_of-end c =
     let l = c.requires.0.lines in

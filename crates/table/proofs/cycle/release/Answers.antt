@@ -8,7 +8,6 @@ use Rattle.table.proofs.Arrays.{taken_small, removing_start, removing_end, remov
 use Rattle.table.proofs.Pairs.{strong_read, weak_read, weak_small}
 use Rattle.table.proofs.cycle.release.Goals as goal
 
--- the place of the rule that is taken up is within the queue's array
 pub offset_bounds-first-wide : goal.offset_bounds-first-wide
 offset_bounds-first-wide c =
     let small : c.wide.result < 1024 = taken_small _ _ _ _ _ _ _ c.requires.pairs_in_order.0 c.requires.pairs_in_order.2 c.requires.first_len.3 (omega (arith, c.requires.first_len)) c.wide.ensures in
