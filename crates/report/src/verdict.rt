@@ -23,6 +23,7 @@ pub enum Verdict {
     Open,
 }
 
+#[tactic(auto, unfolding(crate::specs::Text::meant))]
 fn first_fit(clash: bool, go: bool, hold: bool, idle: bool, split: bool) -> Verdict
     ensures { meant result ≡ first_fit clash go hold idle split }
 {

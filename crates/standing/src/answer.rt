@@ -16,6 +16,7 @@ pub enum Standing {
 }
 
 // The first that fits, by the tests of firing and out.
+#[tactic(auto, unfolding(crate::specs::Answers::meant))]
 pub fn first_fit(firing: bool, out: bool) -> Standing
     ensures { meant result ≡ first_fit firing out }
 {
