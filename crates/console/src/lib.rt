@@ -46,8 +46,7 @@ pub extern "C" fn fly_sheet(table: &[u8], out: &mut [u8; 5041]) -> u32
     ensures { Printed table.now out.new result }
 {
     let sheet = sheet_of(table);
-    let bytes = sheet.bytes;
-    *out = bytes;
+    out.copy_from_slice(&sheet.bytes);
     sheet.length as u32
 }
 

@@ -78,7 +78,8 @@ fn run_copied(
     answer
 }
 
-// A run in buffers of its own, 69,632 bytes of stack.
+// A run in buffers of its own, 69,632 bytes of stack, for which only runs in short logs pay, since it is not taken into its caller.
+#[inline(never)]
 fn run_apart(
     table: &[u8],
     s: Sizes,
@@ -95,8 +96,7 @@ fn run_apart(
     run_copied(table, s, budget, log, scratch, &mut draft, &mut mem, start)
 }
 
-// A run in a short log (document 02, S-2). Of a longer scratch only the words that are to be cleared are lent. For that it calls itself: the
-// compiler takes no callee with a large frame into such a function, so that only runs in short logs pay for the stack of `run_apart`.
+// A run in a short log (document 02, S-2). Of a longer scratch only the words that are to be cleared are lent. For that it calls itself.
 fn run_short(
     table: &[u8],
     s: Sizes,

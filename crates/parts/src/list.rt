@@ -10,7 +10,8 @@ use table::format::Sizes;
 use table::judge::{Judgement, Refusal, judge};
 use values::{copy_words, wide};
 
-// The parts of a layout that is legal.
+// The parts of a layout that is legal. It is not taken into its caller, so that no array lies under the judgement.
+#[inline(never)]
 fn list_layout(layout: &[u8], s: Sizes, list: &mut [u16]) -> Listing
     requires { Legal layout.now s }
     ensures { ListedLayout layout.now s list.old list.new result }

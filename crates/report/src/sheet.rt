@@ -111,6 +111,8 @@ fn bound_of(s: Sizes) -> u32
         + 3 * (s.pairs as u32)
 }
 
+// It is not taken into its callers, in which more copies of the bytes would be made.
+#[inline(never)]
 fn put_sheet(table: &[u8], out: &mut [u8]) -> usize
     requires { length out.old ≡ 5041 }
     ensures { Put out.old 0 (sheet_of table.now) out.new result }
@@ -130,7 +132,8 @@ fn put_sheet(table: &[u8], out: &mut [u8]) -> usize
 pub fn sheet_of(table: &[u8]) -> Sheet
     ensures { Printed table.now result.bytes result.length }
 {
-    let mut bytes = [0u8; 5041];
-    let length = put_sheet(table, &mut bytes);
-    Sheet { bytes, length }
+    let bytes = [0u8; 5041];
+    let mut sheet = Sheet { bytes, length: 0 };
+    sheet.length = put_sheet(table, &mut sheet.bytes);
+    sheet
 }

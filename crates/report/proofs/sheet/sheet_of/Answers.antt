@@ -3,4 +3,4 @@ use Rattle.report.proofs.Running.{printed}
 use Rattle.report.proofs.sheet.sheet_of.Goals as goal
 
 pub returns : goal.returns
-returns c = printed c.args.table.now c.put_sheet-length.new.out c.put_sheet-length.result c.put_sheet-length.ensures
+returns c = printed c.args.table.now c.put_sheet.new.out c.put_sheet.result c.put_sheet.ensures
