@@ -1,5 +1,5 @@
 #!/usr/bin/env python3
-"""Brings the repository's own antt names to today's spelling, once, after /opt/rattle/port/port.py.
+"""Brings the repository's own antt names to today's spelling, once, after the kit's port.py.
 
 usage: tools/respell.py        at the top of the repository; files are rewritten in place
 
@@ -106,8 +106,6 @@ def main():
             with open(path, "w", encoding="utf-8") as f:
                 f.write(new)
     print(f"{len(turned)} names turned")
-    with open("/tmp/respelled.txt", "w") as f:
-        f.writelines(f"{a} {b}\n" for a, b in turned.items())
 
 
 main()
