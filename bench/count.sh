@@ -1,7 +1,7 @@
-# Sourced by the scripts beside it, whose first argument is the archive (crates/console/out/libconsole.a): builds once.c, and counts the
+# Sourced by the scripts beside it, whose first argument is the archive (target/staticlib/libconsole.a): builds once.c, and counts the
 # instructions of one call.
 set -eu
-here=$(cd "$(dirname "$0")" && pwd); archive=${1:?the archive: crates/console/out/libconsole.a}
+here=$(cd "$(dirname "$0")" && pwd); archive=${1:?the archive: target/staticlib/libconsole.a}
 tmp=$(mktemp -d); trap 'rm -r "$tmp"' EXIT
 # Bound at the start, so that no symbol is looked up within a call.
 gcc -O2 -std=c11 -Wall -Wextra -Werror -pedantic -Wl,-z,now -I"$here/../include" "$here/once.c" "$here/c_engine.c" "$here/c_flags.c" \

@@ -1,8 +1,8 @@
 /* The rule engine in a console written in C. This header is its manual; words in capitals are defined below.
  *
- * To build: `rt lib` in crates/console proves the engine and writes the archive. A program that calls it is built by, for example,
+ * To build: `./build-archive` proves the engine and writes the archive. A program that calls it is built by, for example,
  *
- *     gcc -std=c11 -O2 -Iinclude examples/console/loop.c crates/console/out/libconsole.a -o target/loop
+ *     gcc -std=c11 -O2 -Iinclude examples/console/loop.c target/staticlib/libconsole.a -o target/loop
  *
  * The table. A file in one of two editions (docs/FORMAT.md). The old layout, FLY_OLD, has at most FLY_MAX_BYTES bytes: five 16-bit
  * little-endian sizes, A atoms, F facts, N rules, B antecedent entries and P pairs, and two arrays of F+N+B+P words. The first word,

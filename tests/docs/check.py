@@ -1,7 +1,7 @@
 #!/usr/bin/env python3
 """Checks the documents against the tree, and says what is wrong. In docs/PROOF.md each must-fail edit is cited once, by `name` in the first
 cell of a row of its crate's table, and no row cites one that is not there; each file or folder that a document names from the root, or
-from crates/, is there, but for what is built in a crate's out/, and so is each name in a code span; README prints the sheets of its examples and the header's command;
+from crates/, is there, and so is each name in a code span; README prints the sheets of its examples and the header's command;
 docs/changes/README.md lists each note there."""
 import os
 import re
@@ -59,7 +59,7 @@ def paths(text):
 def path_faults():
     for document in DOCUMENTS:
         for path in paths(read(document)):
-            if '/out/' not in path and not os.path.exists(os.path.join(ROOT, path)):
+            if not os.path.exists(os.path.join(ROOT, path)):
                 yield f'{document}: {path} is not there'
 
 

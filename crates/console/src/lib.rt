@@ -1,5 +1,5 @@
-// The functions that a console written in C links (include/flyrules.h), on numbers and slices alone. Each calls one proved function in the
-// edition that it is told, whose contract is handed on whole.
+// The functions that a console written in C calls (include/flyrules.h), on numbers and slices alone; crate console_c exports them. Each calls
+// one proved function in the edition that it is told, whose contract is handed on whole.
 #![tactic(auto)]
 
 mod told;
@@ -25,8 +25,7 @@ use table::judge::Refusal;
 use told::{Told, told_by};
 use writing::answer::{Written, WrittenNumbers};
 
-#[unsafe(no_mangle)]
-pub extern "C" fn fly_run(
+pub fn fly_run(
     table: &[u8],
     edition: u32,
     budget: u32,
@@ -41,8 +40,7 @@ pub extern "C" fn fly_run(
     }
 }
 
-#[unsafe(no_mangle)]
-pub extern "C" fn fly_sheet(table: &[u8], out: &mut [u8; 5041]) -> u32
+pub fn fly_sheet(table: &[u8], out: &mut [u8; 5041]) -> u32
     ensures { Printed table.now out.new result }
 {
     let sheet = sheet_of(table);
@@ -50,8 +48,7 @@ pub extern "C" fn fly_sheet(table: &[u8], out: &mut [u8; 5041]) -> u32
     sheet.length as u32
 }
 
-#[unsafe(no_mangle)]
-pub extern "C" fn fly_stands(table: &[u8], edition: u32, rule: u32, log: &[u16]) -> StandingNumbers
+pub fn fly_stands(table: &[u8], edition: u32, rule: u32, log: &[u16]) -> StandingNumbers
     ensures { result ≡ standing_told (told_by edition) table.now rule log.now }
 {
     match told_by(edition) {
@@ -67,8 +64,7 @@ fn not_written() -> WrittenNumbers
     Written::Refused(Refusal::Truncated).numbers()
 }
 
-#[unsafe(no_mangle)]
-pub extern "C" fn fly_convert(table: &[u8], edition: u32, out: &mut [u8]) -> WrittenNumbers
+pub fn fly_convert(table: &[u8], edition: u32, out: &mut [u8]) -> WrittenNumbers
     ensures { ConvertedTold (told_by edition) table.now out.old out.new result }
 {
     match told_by(edition) {
@@ -77,13 +73,7 @@ pub extern "C" fn fly_convert(table: &[u8], edition: u32, out: &mut [u8]) -> Wri
     }
 }
 
-#[unsafe(no_mangle)]
-pub extern "C" fn fly_join(
-    house: &[u8],
-    tour: &[u8],
-    edition: u32,
-    out: &mut [u8],
-) -> WrittenNumbers
+pub fn fly_join(house: &[u8], tour: &[u8], edition: u32, out: &mut [u8]) -> WrittenNumbers
     ensures { JoinedTold (told_by edition) house.now tour.now out.old out.new result }
 {
     match told_by(edition) {
@@ -92,8 +82,7 @@ pub extern "C" fn fly_join(
     }
 }
 
-#[unsafe(no_mangle)]
-pub extern "C" fn fly_parts(table: &[u8], edition: u32, list: &mut [u16]) -> u32
+pub fn fly_parts(table: &[u8], edition: u32, list: &mut [u16]) -> u32
     ensures { ListedTold (told_by edition) table.now list.old list.new result }
 {
     match told_by(edition) {
@@ -102,8 +91,7 @@ pub extern "C" fn fly_parts(table: &[u8], edition: u32, list: &mut [u16]) -> u32
     }
 }
 
-#[unsafe(no_mangle)]
-pub extern "C" fn fly_part(table: &[u8], edition: u32, atom: u32, out: &mut [u8]) -> WrittenNumbers
+pub fn fly_part(table: &[u8], edition: u32, atom: u32, out: &mut [u8]) -> WrittenNumbers
     ensures { PartedTold (told_by edition) table.now atom out.old out.new result }
 {
     match told_by(edition) {
