@@ -12,61 +12,20 @@ mod records;
 mod runs;
 mod stream;
 
-use difference::print_number;
+use difference::Difference;
+use joins::join_differs;
+use parted::{list_differs, part_differs};
+use readers::readers_differ;
+use records::{
+    base_differs, body_differs, conversion_differs, made_differ, sheet_differs, told_differ,
+};
 use std::io::ErrorKind;
 use std::rt::Files;
 use std::{fs, io};
-use table::edition::Edition;
+use stream::{END, Stream};
 
 // More records than any file has.
 const LIMIT: u32 = 65536;
-
-// How the records of a file are laid out.
-#[derive(Clone, Copy)]
-pub enum Layout {
-    Base,
-    Runs,
-    Told,
-    Bodies,
-    Readers,
-    Sheets,
-    Conversions,
-    Joins,
-    Lists,
-    Parts,
-}
-
-// Whether a record, whose table, or house, has n bytes, gives what it must.
-fn is_same(
-    rt: &impl Print,
-    file: &str,
-    layout: Layout,
-    rest: &mut &[u8],
-    record: u32,
-    n: u32,
-) -> io::Result<bool> {
-    let buffer = stream::bytes(rest, n);
-    let table = stream::front(&buffer, n);
-    let d = match layout {
-        Layout::Base => records::base_differs(rest, record, table),
-        Layout::Runs => records::fields_differ(rest, record, table, Edition::Old),
-        Layout::Told => records::told_differ(rest, record, table),
-        Layout::Bodies => records::body_differs(rest, table),
-        Layout::Readers => readers::readers_differ(rest, table),
-        Layout::Sheets => records::sheet_differs(rest, table),
-        Layout::Conversions => records::conversion_differs(rest, record, table),
-        Layout::Joins => joins::join_differs(rest, record, table),
-        Layout::Lists => parted::list_differs(rest, record, table),
-        Layout::Parts => parted::part_differs(rest, record, table),
-    };
-    d.is_none(rt, file, record)
-}
-
-fn print_counts(rt: &impl Print, file: &str, records: u32, same: u32) -> io::Result<()> {
-    print_number(rt, file, records as usize)?;
-    print_number(rt, " same", same as usize)?;
-    println!(rt)
-}
 
 // The bytes of a data file, none where there is no such file.
 fn bytes_of(rt: &(impl Files + AllocGlobal), file: &str) -> io::Result<Vec<u8>> {
@@ -76,47 +35,77 @@ fn bytes_of(rt: &(impl Files + AllocGlobal), file: &str) -> io::Result<Vec<u8>> 
     }
 }
 
-// The count of a record's table has four bytes where it is wide, else two. A file that is not there has no records.
-fn try_file(
-    rt: &(impl Files + AllocGlobal + Print),
-    file: &str,
-    layout: Layout,
-    wide: bool,
-) -> io::Result<()> {
+// The records of a file, by how the count of a record's table, or house, is read, and by what differs first in the rest of the record. A
+// file that is not there has no records.
+fn try_counted<
+    R: Files + AllocGlobal + Print,
+    C: Fn(&mut Stream) -> u32,
+    D: Fn(&mut Stream, u32, &[u8]) -> Option<Difference>,
+>(rt: &R, file: &str, count: C, differs: D) -> io::Result<()>
+    requires counts { C.IsAlwaysCallable count }
+    requires compares { D.IsAlwaysCallable differs }
+{
     let bytes = bytes_of(rt, file)?;
-    let mut rest = bytes.as_slice();
+    let mut rest = Stream::new(bytes.as_slice());
+    let mut records: u32 = 0;
     let mut same: u32 = 0;
-    let mut i: u32 = 0;
-    while i < LIMIT {
-        let n = if wide {
-            stream::long(&mut rest)
-        } else {
-            stream::word(&mut rest) as u32
-        };
-        if stream::END <= n {
+    for number in 0..LIMIT {
+        let n = count(&mut rest);
+        if END <= n {
             break;
         }
-        let it = is_same(rt, file, layout, &mut rest, i, n)?;
-        same = same.wrapping_add(it as u32);
-        i += 1;
+        let table = rest.bytes(n);
+        match differs(&mut rest, number, table) {
+            None => same += 1,
+            Some(d) => println!(rt; "{file} {number}{d}")?,
+        }
+        records += 1;
     }
-    print_counts(rt, file, i, same)
+    println!(rt; "{file} {records} same {same}")
+}
+
+// A count has four bytes.
+fn try_file<R: Files + AllocGlobal + Print, D: Fn(&mut Stream, u32, &[u8]) -> Option<Difference>>(
+    rt: &R,
+    file: &str,
+    differs: D,
+) -> io::Result<()>
+    requires { D.IsAlwaysCallable differs }
+{
+    try_counted(rt, file, |rest| rest.long(), differs)
 }
 
 fn main(rt: HostRuntime) -> io::Result<()> {
-    try_file(&rt, "base.bin", Layout::Base, false)?;
-    try_file(&rt, "made.bin", Layout::Runs, true)?;
-    try_file(&rt, "short-logs.bin", Layout::Runs, true)?;
-    try_file(&rt, "told.bin", Layout::Told, true)?;
-    try_file(&rt, "bodies.bin", Layout::Bodies, true)?;
-    try_file(&rt, "readers.bin", Layout::Readers, true)?;
-    try_file(&rt, "sheets-S6.bin", Layout::Sheets, true)?;
-    try_file(&rt, "longest.bin", Layout::Sheets, true)?;
-    try_file(&rt, "editions.bin", Layout::Conversions, true)?;
-    try_file(&rt, "conversions.bin", Layout::Conversions, true)?;
-    try_file(&rt, "joins.bin", Layout::Joins, true)?;
-    try_file(&rt, "parts.bin", Layout::Lists, true)?;
-    try_file(&rt, "lists.bin", Layout::Lists, true)?;
-    try_file(&rt, "part-tables.bin", Layout::Parts, true)?;
-    try_file(&rt, "parted.bin", Layout::Parts, true)
+    // A count has two bytes here.
+    try_counted(&rt, "base.bin", |rest| u32::from(rest.word()), base_differs)?;
+    try_file(&rt, "made.bin", made_differ)?;
+    try_file(&rt, "short-logs.bin", made_differ)?;
+    try_file(&rt, "told.bin", told_differ)?;
+    try_file(
+        &rt,
+        "bodies.bin",
+        |rest, _, table| body_differs(rest, table),
+    )?;
+    try_file(
+        &rt,
+        "readers.bin",
+        |rest, _, table| readers_differ(rest, table),
+    )?;
+    try_file(
+        &rt,
+        "sheets-S6.bin",
+        |rest, _, table| sheet_differs(rest, table),
+    )?;
+    try_file(
+        &rt,
+        "longest.bin",
+        |rest, _, table| sheet_differs(rest, table),
+    )?;
+    try_file(&rt, "editions.bin", conversion_differs)?;
+    try_file(&rt, "conversions.bin", conversion_differs)?;
+    try_file(&rt, "joins.bin", join_differs)?;
+    try_file(&rt, "parts.bin", list_differs)?;
+    try_file(&rt, "lists.bin", list_differs)?;
+    try_file(&rt, "part-tables.bin", part_differs)?;
+    try_file(&rt, "parted.bin", part_differs)
 }

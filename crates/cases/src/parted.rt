@@ -1,39 +1,28 @@
 // The records of parts, after their table.
-use crate::difference::{Difference, LIST, REFUSED};
-use crate::noise::{noisy, noisy_bytes};
-use crate::records::{told_edition, written_differs};
-use crate::runs::compare_words;
-use crate::stream::{bytes_over, long, number};
+use crate::difference::{Difference, What, differs};
+use crate::noise::{SIZE, noise};
+use crate::records::written_differs;
+use crate::runs::words_differ;
+use crate::stream::Stream;
+use parts::answer::listing_number;
 use parts::list::parts;
 use parts::part::part;
+use std::array;
 
 // parts.bin and lists.bin: the edition, how many words of list are borrowed, the refusal, and the words, past which the list is as it was.
-pub fn list_differs(rest: &mut &[u8], record: u32, table: &[u8]) -> Difference {
-    let edition = told_edition(rest);
-    let k = (number(rest) % 65536) as usize;
-    let refused = number(rest);
-    let n = long(rest) / 2;
-    let mut list = noisy(record);
-    let answer = parts(table, edition, &mut list[0..k]);
-    let d = Difference {
-        what: REFUSED,
-        place: 0,
-        came: answer.number(),
-        wanted: refused,
-    };
-    compare_words(d, LIST, &list, rest, n, record)
+pub fn list_differs(rest: &mut Stream, record: u32, table: &[u8]) -> Option<Difference> {
+    let edition = rest.edition();
+    let n = rest.size();
+    let refused = rest.number();
+    let words = rest.text();
+    let mut list: [u16; SIZE] = array::from_fn(|i| noise(record, i));
+    let came = listing_number(parts(table, edition, &mut list[..n]));
+    differs(What::Refused, came, refused).or(words_differ(What::List, &list, words, record))
 }
 
-// part-tables.bin and parted.bin: the edition, the atom, how many bytes of output are borrowed, the refusal, and the part's file, past which
-// the output is as it was.
-pub fn part_differs(rest: &mut &[u8], record: u32, table: &[u8]) -> Difference {
-    let edition = told_edition(rest);
-    let atom = number(rest);
-    let k = (number(rest) % 65536) as usize;
-    let refused = number(rest);
-    let n = long(rest);
-    let mut out = noisy_bytes(record);
-    let wanted = bytes_over(out, rest, n);
-    let answer = part(table, edition, atom, &mut out[0..k]);
-    written_differs(answer, refused, n, &out, &wanted)
+// part-tables.bin and parted.bin: the edition, the atom, and what is written.
+pub fn part_differs(rest: &mut Stream, record: u32, table: &[u8]) -> Option<Difference> {
+    let edition = rest.edition();
+    let atom = rest.number();
+    written_differs(rest, record, |out| part(table, edition, atom, out))
 }

@@ -1,123 +1,75 @@
 // A run of the engine on buffers of noise: what it answers, and what it leaves in every word of the buffers, borrowed or not.
-use crate::difference::{
-    Difference, FINISHED, JUDGED, LINES, LOG, REFUSED, SCRATCH, SPENT, WORKED,
-};
-use crate::noise::{noise, noisy};
-use crate::stream::word;
+ghost use Rattle.std.specs.Prelude.{◌≤◌};
+
+use crate::difference::{Difference, What, differs, items_differ};
+use crate::noise::{SIZE, noise};
 use engine::answer::Numbers;
 use engine::run::run;
+use std::array;
 use table::edition::Edition;
-use table::judge::{Judgement, judge};
+use table::judge::judge;
 
-// A run: the edition, the budget and how many words of log and of scratch are borrowed; what must come out, the number of the refusal or
-// 0, 1 where the run finishes, and the counts; and how many words of log follow in the file.
+// A run: the edition, the budget and how many words of log and of scratch are borrowed; the numbers that must come out, and the words of
+// the log, two bytes each.
 #[derive(Clone, Copy)]
-pub struct Run {
+pub struct Run<'a> {
     pub edition: Edition,
     pub budget: u32,
-    pub log: u32,
-    pub scratch: u32,
-    pub refused: u32,
-    pub finished: u32,
-    pub lines: u32,
-    pub worked: u32,
-    pub spent: u32,
-    pub words: u32,
+    pub log: usize,
+    pub scratch: usize,
+    pub numbers: Numbers,
+    pub words: &'a [u8],
+    pub ghost in_buffers: { (log ≤ 65536) × (scratch ≤ 65536) },
 }
 
 // The number of a table's refusal, or 0.
 fn judged(table: &[u8], edition: Edition) -> u32 {
-    let j = judge(table, edition);
-    match j {
-        Judgement::Accepted(_) => 0,
-        Judgement::Refused(why) => why.number() as u32,
-    }
+    judge(table, edition).err().map_or(0, u32::from)
 }
 
-fn compare_numbers(judged: u32, came: Numbers, want: Run) -> Difference {
-    let d = Difference {
-        what: JUDGED,
-        place: 0,
-        came: judged,
-        // 8 and 9 are refusals of the buffers.
-        wanted: want.refused % 9 % 8,
-    };
-    d.or(REFUSED, 0, came.refused, want.refused)
-        .or(FINISHED, 0, came.finished, want.finished)
-        .or(LINES, 0, came.lines, want.lines)
-        .or(WORKED, 0, came.worked, want.worked)
-        .or(SPENT, 0, came.spent, want.spent)
+fn numbers_differ(judged: u32, came: Numbers, want: Numbers) -> Option<Difference> {
+    // 8 and 9 are refusals of the buffers.
+    differs(What::Judged, judged, want.refused % 9 % 8)
+        .or(differs(What::Refused, came.refused, want.refused))
+        .or(differs(What::Finished, came.finished, want.finished))
+        .or(differs(What::Lines, came.lines, want.lines))
+        .or(differs(What::Worked, came.worked, want.worked))
+        .or(differs(What::Spent, came.spent, want.spent))
 }
 
-// What a word must be: the next word of the file in a log or a list, 0 in the scratch, and noise past the first n words.
-fn wanted(what: usize, rest: &mut &[u8], n: u32, seed: u32, i: usize) -> u16 {
-    if n as usize <= i {
-        return noise(seed, i);
-    }
-    if what == SCRATCH {
-        return 0;
-    }
-    word(rest)
+// A log or a list must hold words, two bytes each, and noise past them.
+pub fn words_differ(what: What, came: &[u16], words: &[u8], seed: u32) -> Option<Difference> {
+    let (words, _) = words.as_chunks::<2>();
+    items_differ(what, came, |i| {
+        words
+            .get(i)
+            .map_or_else(|| noise(seed, i), |word| u16::from_le_bytes(*word))
+    })
 }
 
-fn wide(word: u16) -> u32 {
-    word as u32
-}
-
-pub fn compare_words(
-    d: Difference,
-    what: usize,
-    words: &[u16; 65536],
-    rest: &mut &[u8],
-    n: u32,
-    seed: u32,
-) -> Difference {
-    let mut d = d;
-    let mut i: usize = 0;
-    while i < 65536 {
-        d = d.or(
-            what,
-            i,
-            wide(words[i]),
-            wanted(what, rest, n, seed, i) as u32,
-        );
-        i += 1;
-    }
-    d
-}
-
-// How many words of the scratch are 0 after a run.
-fn cleared(refused: u32) -> u32 {
-    match refused {
-        0 => 32768,
-        _ => 0,
-    }
+// The scratch must be 0 where a run cleared it.
+fn scratch_differs(scratch: &[u16], refused: u32, seed: u32) -> Option<Difference> {
+    let cleared = if refused == 0 { 32768 } else { 0 };
+    items_differ(What::Scratch, scratch, |i| {
+        if i < cleared { 0 } else { noise(seed, i) }
+    })
 }
 
 // The first difference of a run.
-pub fn run_differs(rest: &mut &[u8], record: u32, table: &[u8], want: Run) -> Difference {
+pub fn run_differs(record: u32, table: &[u8], want: Run) -> Option<Difference> {
     let log_seed = record % 32768;
     let scratch_seed = log_seed + 32768;
-    let mut log = noisy(log_seed);
-    let mut scratch = noisy(scratch_seed);
-    let n = (want.log % 65536) as usize;
-    let k = (want.scratch % 65536) as usize;
+    let mut log: [u16; SIZE] = array::from_fn(|i| noise(log_seed, i));
+    let mut scratch: [u16; SIZE] = array::from_fn(|i| noise(scratch_seed, i));
     let edition = want.edition;
     let answer = run(
         table,
         edition,
         want.budget,
-        &mut log[0..n],
-        &mut scratch[0..k],
+        &mut log[..want.log],
+        &mut scratch[..want.scratch],
     );
-    let d = compare_numbers(judged(table, edition), answer.numbers(), want);
-    let d = compare_words(d, LOG, &log, rest, want.words, log_seed);
-    compare_words(
-        d,
-        SCRATCH,
-        &scratch,
-        rest,
-        cleared(want.refused),
-        scratch_seed,
-    )
+    numbers_differ(judged(table, edition), Numbers::from(answer), want.numbers)
+        .or(words_differ(What::Log, &log, want.words, log_seed))
+        .or(scratch_differs(&scratch, want.numbers.refused, scratch_seed))
 }

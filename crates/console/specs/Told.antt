@@ -1,6 +1,6 @@
 -- Document 02, S-5: "each call is told the edition of each of its tables". In C it is told by its number, and what each call hands over is
 -- that of the edition. Any other number is refused by 1, whatever the table, and writes nothing.
-use Rattle.std.specs.Prelude.{ℕ, zero, suc, ◌≡◌, List}
+use Rattle.std.specs.Prelude.{ℕ, zero, suc, ◌≡◌, Option, Some, None, List}
 use Rattle.table.specs.declared.edition.Edition.{Edition}
 use Rattle.table.specs.declared.edition.Edition.TheVariants.{Old, Two}
 use Rattle.table.specs.declared.judge.Refusal.TheVariants.{Truncated}
@@ -17,40 +17,38 @@ use Rattle.writing.specs.Answers as written
 use Rattle.convert.specs.Conversion.{Converted}
 use Rattle.join.specs.Calls.{Joined}
 use Rattle.parts.specs.Calls.{Listed, Parted}
-use Rattle.console.specs.declared.told.Told.{Told}
-use Rattle.console.specs.declared.told.Told.TheVariants.{Known, Unknown}
 
 -- 1 the old layout, 2 edition two (proofs/Telling.antt: `told_edition`)
-unfoldable pub told_by : ℕ → Told
-told_by zero = Unknown
-told_by (suc zero) = Known Old
-told_by (suc (suc zero)) = Known Two
-told_by (suc (suc (suc n))) = Unknown
+unfoldable pub told_by : ℕ → Option Edition
+told_by zero = None
+told_by (suc zero) = Some Old
+told_by (suc (suc zero)) = Some Two
+told_by (suc (suc (suc n))) = None
 
 -- a run
-unfoldable pub RanTold : Told → List ℕ → ℕ → List ℕ → List ℕ → List ℕ → List ℕ → Numbers → Type 0
-RanTold (Known e) b budget log log' scratch scratch' n = Ran (judgement_of e b) (theory_of e b) budget log log' scratch scratch' n
-RanTold Unknown b budget log log' scratch scratch' n = (n ≡ run.refusal_numbers (number_of Truncated)) × (log' ≡ log) × (scratch' ≡ scratch)
+unfoldable pub RanTold : Option Edition → List ℕ → ℕ → List ℕ → List ℕ → List ℕ → List ℕ → Numbers → Type 0
+RanTold (Some e) b budget log log' scratch scratch' n = Ran (judgement_of e b) (theory_of e b) budget log log' scratch scratch' n
+RanTold None b budget log log' scratch scratch' n = (n ≡ run.refusal_numbers (number_of Truncated)) × (log' ≡ log) × (scratch' ≡ scratch)
 
 -- how a rule stands
-unfoldable pub standing_told : Told → List ℕ → ℕ → List ℕ → StandingNumbers
-standing_told (Known e) b r log = standing_of e b r log
-standing_told Unknown b r log = standing.refusal_numbers (number_of Truncated)
+unfoldable pub standing_told : Option Edition → List ℕ → ℕ → List ℕ → StandingNumbers
+standing_told (Some e) b r log = standing_of e b r log
+standing_told None b r log = standing.refusal_numbers (number_of Truncated)
 
 -- a call that answers with a number or two and writes into one buffer, by what it hands over in each edition
-unfoldable pub WritesTold : {A : Type 0} → Told → (Edition → List ℕ → A → Type 0) → A → List ℕ → List ℕ → A → Type 0
-WritesTold (Known e) handed refused out out' n = handed e out' n
-WritesTold Unknown handed refused out out' n = (n ≡ refused) × (out' ≡ out)
+unfoldable pub WritesTold : {A : Type 0} → Option Edition → (Edition → List ℕ → A → Type 0) → A → List ℕ → List ℕ → A → Type 0
+WritesTold (Some e) handed refused out out' n = handed e out' n
+WritesTold None handed refused out out' n = (n ≡ refused) × (out' ≡ out)
 
 -- a conversion, a join, a part's own table, the list of the parts
-abbrev pub ConvertedTold : Told → List ℕ → List ℕ → List ℕ → WrittenNumbers → Type 0
+abbrev pub ConvertedTold : Option Edition → List ℕ → List ℕ → List ℕ → WrittenNumbers → Type 0
 ConvertedTold t b out = WritesTold t (λ e. Converted e b out) (written.refusal_numbers (number_of Truncated)) out
 
-abbrev pub JoinedTold : Told → List ℕ → List ℕ → List ℕ → List ℕ → WrittenNumbers → Type 0
+abbrev pub JoinedTold : Option Edition → List ℕ → List ℕ → List ℕ → List ℕ → WrittenNumbers → Type 0
 JoinedTold t house tour out = WritesTold t (λ e. Joined e house tour out) (written.refusal_numbers (number_of Truncated)) out
 
-abbrev pub PartedTold : Told → List ℕ → ℕ → List ℕ → List ℕ → WrittenNumbers → Type 0
+abbrev pub PartedTold : Option Edition → List ℕ → ℕ → List ℕ → List ℕ → WrittenNumbers → Type 0
 PartedTold t b atom out = WritesTold t (λ e. Parted e b atom out) (written.refusal_numbers (number_of Truncated)) out
 
-abbrev pub ListedTold : Told → List ℕ → List ℕ → List ℕ → ℕ → Type 0
+abbrev pub ListedTold : Option Edition → List ℕ → List ℕ → List ℕ → ℕ → Type 0
 ListedTold t b list = WritesTold t (λ e. Listed e b list) (number_of Truncated) list

@@ -1,12 +1,12 @@
 // The functions that a console written in C calls (include/flyrules.h), on numbers and slices alone; crate console_c exports them. Each calls
 // one proved function in the edition that it is told, whose contract is handed on whole.
+// Each is a `match`: a closure that is not called, as by `and_then` on None, would have to say that the output which it holds is untouched.
 #![tactic(auto)]
 
 mod told;
 
-ghost use Rattle.std.specs.Prelude.{◌≡◌};
+ghost use Rattle.std.specs.Prelude.{◌≡◌, Err};
 ghost use Rattle.table.specs.declared.judge.Refusal.TheVariants.{Truncated};
-ghost use Rattle.writing.specs.declared.answer.Written.TheVariants.{Refused};
 ghost use Rattle.writing.specs.Answers.{numbers_of};
 ghost use Rattle.report.specs.Sheet.{Printed};
 ghost use Rattle.console.specs.Told.{told_by, RanTold, standing_told, ConvertedTold, JoinedTold, PartedTold, ListedTold};
@@ -15,15 +15,15 @@ use convert::convert::convert;
 use engine::answer::{Answer, Numbers};
 use engine::run::run;
 use join::join::join;
-use parts::answer::Listing;
+use parts::answer::listing_number;
 use parts::list::parts;
 use parts::part::part;
 use report::sheet::sheet_of;
-use standing::answer::{StandingAnswer, StandingNumbers};
+use standing::answer::StandingNumbers;
 use standing::stands::stands;
 use table::judge::Refusal;
-use told::{Told, told_by};
-use writing::answer::{Written, WrittenNumbers};
+use told::told_by;
+use writing::answer::WrittenNumbers;
 
 pub fn fly_run(
     table: &[u8],
@@ -35,8 +35,8 @@ pub fn fly_run(
     ensures { RanTold (told_by edition) table.now budget log.old log.new scratch.old scratch.new result }
 {
     match told_by(edition) {
-        Told::Known(e) => run(table, e, budget, log, scratch).numbers(),
-        Told::Unknown => Answer::Refused(Refusal::Truncated).numbers(),
+        Some(e) => Numbers::from(run(table, e, budget, log, scratch)),
+        None => Numbers::from(Answer::Refused(Refusal::Truncated)),
     }
 }
 
@@ -52,24 +52,24 @@ pub fn fly_stands(table: &[u8], edition: u32, rule: u32, log: &[u16]) -> Standin
     ensures { result ≡ standing_told (told_by edition) table.now rule log.now }
 {
     match told_by(edition) {
-        Told::Known(e) => stands(table, e, rule, log).numbers(),
-        Told::Unknown => StandingAnswer::Refused(Refusal::Truncated).numbers(),
+        Some(e) => StandingNumbers::from(stands(table, e, rule, log)),
+        None => StandingNumbers::from(Err(Refusal::Truncated)),
     }
 }
 
 // What a call that writes a table answers to a number of no edition.
 fn not_written() -> WrittenNumbers
-    ensures { result ≡ numbers_of (Refused Truncated) }
+    ensures { result ≡ numbers_of (Err Truncated) }
 {
-    Written::Refused(Refusal::Truncated).numbers()
+    WrittenNumbers::from(Err(Refusal::Truncated))
 }
 
 pub fn fly_convert(table: &[u8], edition: u32, out: &mut [u8]) -> WrittenNumbers
     ensures { ConvertedTold (told_by edition) table.now out.old out.new result }
 {
     match told_by(edition) {
-        Told::Known(e) => convert(table, e, out).numbers(),
-        Told::Unknown => not_written(),
+        Some(e) => WrittenNumbers::from(convert(table, e, out)),
+        None => not_written(),
     }
 }
 
@@ -77,8 +77,8 @@ pub fn fly_join(house: &[u8], tour: &[u8], edition: u32, out: &mut [u8]) -> Writ
     ensures { JoinedTold (told_by edition) house.now tour.now out.old out.new result }
 {
     match told_by(edition) {
-        Told::Known(e) => join(house, tour, e, out).numbers(),
-        Told::Unknown => not_written(),
+        Some(e) => WrittenNumbers::from(join(house, tour, e, out)),
+        None => not_written(),
     }
 }
 
@@ -86,8 +86,8 @@ pub fn fly_parts(table: &[u8], edition: u32, list: &mut [u16]) -> u32
     ensures { ListedTold (told_by edition) table.now list.old list.new result }
 {
     match told_by(edition) {
-        Told::Known(e) => parts(table, e, list).number(),
-        Told::Unknown => Listing::Refused(Refusal::Truncated).number(),
+        Some(e) => listing_number(parts(table, e, list)),
+        None => u32::from(Refusal::Truncated),
     }
 }
 
@@ -95,7 +95,7 @@ pub fn fly_part(table: &[u8], edition: u32, atom: u32, out: &mut [u8]) -> Writte
     ensures { PartedTold (told_by edition) table.now atom out.old out.new result }
 {
     match told_by(edition) {
-        Told::Known(e) => part(table, e, atom, out).numbers(),
-        Told::Unknown => not_written(),
+        Some(e) => WrittenNumbers::from(part(table, e, atom, out)),
+        None => not_written(),
     }
 }

@@ -4,19 +4,14 @@ ghost use Rattle.console.specs.Told.{told_by};
 
 use table::edition::Edition;
 
-#[derive(Clone, Copy)]
-pub enum Told {
-    Known(Edition),
-    Unknown,
-}
-
-// What a number tells.
-pub fn told_by(n: u32) -> Told
+// What a number tells. The number is that of the interface in C, so this is no `TryFrom` of the type's crate, table.
+#[tactic(auto, unfolding(crate::specs::Told::told_by))]
+pub fn told_by(n: u32) -> Option<Edition>
     ensures { result ≡ told_by n }
 {
     match n {
-        1 => Told::Known(Edition::Old),
-        2 => Told::Known(Edition::Two),
-        _ => Told::Unknown,
+        1 => Some(Edition::Old),
+        2 => Some(Edition::Two),
+        _ => None,
     }
 }

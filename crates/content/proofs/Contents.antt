@@ -13,7 +13,7 @@ use Rattle.logic.proofs.Lists.{member_map_intro, member_pick_intro, member_upto_
 use Rattle.logic.proofs.Rising.{rising_values}
 use Rattle.logic.proofs.Contents.{content_sym}
 use Rattle.table.specs.declared.format.Sizes.{Sizes}
-use Rattle.table.specs.declared.judge.Judgement.TheVariants.{Accepted}
+use Rattle.std.specs.Prelude.{Ok}
 use Rattle.table.specs.declared.edition.Edition.{Edition}
 use Rattle.table.specs.Editions.{layout_of}
 use Rattle.table.specs.Format.{facts_from, rules_from, entries_from, pairs_from, kind_of, kind_meant, fact_at, rule_at, entry_at, pair_at, body_in, theory_in, theory_of}
@@ -145,10 +145,10 @@ module _ (b : List ℕ) (s : Sizes) (l : Legal b s) (c : List ℕ) (t : Sizes) (
   }
 
 -- Two accepted tables with the same content, whatever their editions and the origins of their rules, are judged alike and say one theory.
-pub same_tables : (e d : Edition) (b c : List ℕ) (s t : Sizes) → judgement_of e b ≡ Accepted s → judgement_of d c ≡ Accepted t → SameContent (theory_of e b) (theory_of d c)
+pub same_tables : (e d : Edition) (b c : List ℕ) (s t : Sizes) → judgement_of e b ≡ Ok s → judgement_of d c ≡ Ok t → SameContent (theory_of e b) (theory_of d c)
     → (judgement_of e b ≡ judgement_of d c) × (theory_of e b ≡ theory_of d c)
 same_tables e d b c s t a f w = (
-  a ∙ ap Accepted (sizes_same (layout_of e b) s (legal e b s a) (layout_of d c) t (legal d c t f) in_sizes) ∙ sym f,
+  a ∙ ap Ok (sizes_same (layout_of e b) s (legal e b s a) (layout_of d c) t (legal d c t f) in_sizes) ∙ sym f,
   sym (theory_read e b s a) ∙ one_theory (layout_of e b) s (legal e b s a) (layout_of d c) t (legal d c t f) in_sizes ∙ theory_read d c t f,
 )
   where

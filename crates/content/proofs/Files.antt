@@ -15,7 +15,7 @@ use Rattle.logic.specs.Theory as theory
 use Rattle.logic.specs.Content.{SameContent}
 use Rattle.logic.proofs.Tests.{test_cases, of_false, false_of, isnt_intro, at_most, some_intro}
 use Rattle.table.specs.declared.format.Sizes.{Sizes}
-use Rattle.table.specs.declared.judge.Judgement.TheVariants.{Accepted}
+use Rattle.std.specs.Prelude.{Ok}
 use Rattle.table.specs.declared.edition.Edition.{Edition}
 use Rattle.table.specs.declared.edition.Edition.TheVariants.{Old, Two}
 use Rattle.table.specs.Editions.{Bytes, layout_of, unmarked}
@@ -184,7 +184,7 @@ module _ (e : Edition) (b c : List ℕ) (s : Sizes) (l : Legal b s) (k : bad_kin
 
 -- Document 02, S-5, "the unique file": two accepted files of one edition that say the same A, facts, kinds, heads, antecedents and pairs, and
 -- the same origins, are one.
-pub one_file : (e : Edition) (b c : List ℕ) (s t : Sizes) → Bytes b → Bytes c → judgement_of e b ≡ Accepted s → judgement_of e c ≡ Accepted t
+pub one_file : (e : Edition) (b c : List ℕ) (s t : Sizes) → Bytes b → Bytes c → judgement_of e b ≡ Ok s → judgement_of e c ≡ Ok t
     → SameContent (theory_of e b) (theory_of e c) → ((r : ℕ) → r < s.rules → origin_at e b r ≡ origin_at e c r) → b ≡ c
 one_file e b c s t f g a d w o =
     layout_file e b c (marked e b (passed e b s a).whole) (marked e c (passed e c t d).whole)
@@ -197,8 +197,8 @@ one_file e b c s t f g a d w o =
     same : t ≡ s
     same = sym (sizes_same (layout_of e b) s (legal e b s a) (layout_of e c) t (legal e c t d) said)
 
-    d' : judgement_of e c ≡ Accepted s
-    d' = d ∙ ap Accepted same
+    d' : judgement_of e c ≡ Ok s
+    d' = d ∙ ap Ok same
 
     legal_c : Legal (layout_of e c) s
     legal_c = legal e c s d'

@@ -13,7 +13,7 @@ use Rattle.logic.specs.Tests.{◌or◌}
 use Rattle.logic.proofs.Tests.{true_of, of_true, false_of, of_false, or_right, or_elim, at_most, some_intro, some_elim}
 use Rattle.table.specs.declared.format.Sizes.{Sizes}
 use Rattle.table.specs.declared.format.Origin.TheVariants.{None}
-use Rattle.table.specs.declared.judge.Judgement.TheVariants.{Accepted, Refused}
+use Rattle.std.specs.Prelude.{Ok, Err}
 use Rattle.table.specs.declared.judge.Refusal.TheVariants.{BadKind}
 use Rattle.table.specs.declared.edition.Edition.{Edition}
 use Rattle.table.specs.declared.edition.Edition.TheVariants.{Old, Two}
@@ -101,13 +101,13 @@ module _ (e d : Edition) (b c : List ℕ) (s : Sizes) (p : Passed e b s) (first 
         acyclic = ap (λ l. cycle l s) same ∙ p.acyclic;
       }
 
-  pub refused_as : bad_kind d (layout_of e b) s ≡ true → judgement_of d c ≡ Refused BadKind
+  pub refused_as : bad_kind d (layout_of e b) s ≡ true → judgement_of d c ≡ Err BadKind
   unfolding judgement_of judged
   refused_as k =
       simp (long, ap sizes_of same ∙ p.read, p.limits, ap (λ l. wrong_length l s) same ∙ p.length, ap (λ l. bad_kind d l s) same ∙ k)
 
 -- an old table says no origin
-pub old_origins : (b : List ℕ) (s : Sizes) → judgement_of Old b ≡ Accepted s → (r : ℕ) → (rule_at (layout_of Old b) s r).origin ≡ None
+pub old_origins : (b : List ℕ) (s : Sizes) → judgement_of Old b ≡ Ok s → (r : ℕ) → (rule_at (layout_of Old b) s r).origin ≡ None
 unfolding origin_of
 old_origins b s a r =
     ⊎_elim (λ h. ap (λ w. origin_of (w / 4)) (left_past (layout_of Old b) (rules_from s) s.rules r h))
@@ -115,8 +115,8 @@ old_origins b s a r =
     (at_most s.rules r)
 
 -- "An old reader given the old layout, otherwise legal, with an origin in it says 4, never a wrong kind."
-pub old_reader : (b : List ℕ) (s : Sizes) → judgement_of Two b ≡ Accepted s → (r : ℕ) → r < s.rules → 0 < origin_number (origin_at Two b r)
-    → judgement_of Old (layout_of Two b) ≡ Refused BadKind
+pub old_reader : (b : List ℕ) (s : Sizes) → judgement_of Two b ≡ Ok s → (r : ℕ) → r < s.rules → 0 < origin_number (origin_at Two b r)
+    → judgement_of Old (layout_of Two b) ≡ Err BadKind
 unfolding layout_of unmarked
 old_reader b s a r h o =
     refused_as Two Old b (layout_of Two b) s (passed Two b s a) refl refl (foreign_kind (layout_of Two b) s r h (subst (λ z. 0 < origin_number (rule_at (layout_of Two b) z r).origin) (legal Two b s a).read o))

@@ -1,4 +1,5 @@
-// The readers of a table, each told its edition: what stands in its layout. A loop takes the layout once, and reads that (table::format).
+// The readers of a table, each told its edition: what stands in its layout. Any sizes serve, so that
+// table, edition and sizes stay apart. A loop takes the layout once, and reads that (table::format).
 ghost use Rattle.std.specs.Prelude.{◌≡◌};
 ghost use Rattle.table.specs.Editions.{layout_of};
 ghost use Rattle.table.specs.Format.{sizes_of, fact_at, rule_at, entry_at, pair_at};

@@ -14,22 +14,19 @@ use Rattle.table.specs.declared.format.Sizes.{Sizes}
 use Rattle.table.specs.declared.format.Origin.TheVariants.{None}
 use Rattle.table.specs.declared.judge.Refusal.{Refusal}
 use Rattle.table.specs.declared.judge.Refusal.TheVariants.{ShortLog, HasOrigin}
-use Rattle.table.specs.declared.judge.Judgement.{Judgement}
-use Rattle.table.specs.declared.judge.Judgement.TheVariants.{Accepted, Refused}
+use Rattle.table.specs.Refusals.{Judgement, judgement_of}
+use Rattle.std.specs.Prelude.{Ok, Err}
 use Rattle.table.specs.declared.edition.Edition.{Edition}
 use Rattle.table.specs.declared.edition.Edition.TheVariants.{Old, Two}
 use Rattle.table.specs.Editions.{Bytes, layout_of, unmarked}
 use Rattle.table.specs.Format.{origin_number, rule_at, origin_at, theory_of}
-use Rattle.table.specs.Refusals.{judgement_of}
 use Rattle.table.proofs.Legal.{refused_not, accepted_one, pass, passed, accepted, legal}
 use Rattle.content.proofs.Files.{layout_bytes, one_file}
 use Rattle.content.proofs.Origins.{passed_as, two_kinds, plain_kinds, old_origins}
 use Rattle.files.specs.Contents.{content_of, marked, file_of}
 use Rattle.files.proofs.Reading.{file_layout, file_says}
 use Rattle.files.proofs.Only.{only_file}
-use Rattle.writing.specs.declared.answer.Written.{Written}
-use Rattle.writing.specs.declared.answer.Written.TheVariants as written
-use Rattle.writing.specs.Answers.{numbers_of}
+use Rattle.writing.specs.Answers.{Written, numbers_of}
 use Rattle.writing.specs.Output.{Wrote}
 use Rattle.writing.proofs.Answering.{wrote_not}
 use Rattle.convert.specs.Conversion.{other, converted, has_origin, lost, with_output, call_judgement, Conversion, Converted}
@@ -38,7 +35,7 @@ use Rattle.convert.specs.Conversion.{other, converted, has_origin, lost, with_ou
 abbrev copied : Edition → List ℕ → List ℕ
 copied e b = marked (other e) (layout_of e b)
 
-converted_copied : (e : Edition) (b : List ℕ) (s : Sizes) → Bytes b → judgement_of e b ≡ Accepted s → converted e b ≡ copied e b
+converted_copied : (e : Edition) (b : List ℕ) (s : Sizes) → Bytes b → judgement_of e b ≡ Ok s → converted e b ≡ copied e b
 converted_copied e b s f a = ap (marked (other e)) (sym (ap (layout_of e) (only_file e b s f a) ∙ file_layout e (content_of e b)))
 
 -- no origin is lost
@@ -51,7 +48,7 @@ no_origin l s f r h = none _ (λ p. of_false _ f (some_intro s.rules _ r h (lt�
     none (suc n) g = absurd (g (omega arith))
 
 -- it is accepted, where no origin is lost
-copied_accepted : (e : Edition) (b : List ℕ) (s : Sizes) → judgement_of e b ≡ Accepted s → lost e b s ≡ false → judgement_of (other e) (copied e b) ≡ Accepted s
+copied_accepted : (e : Edition) (b : List ℕ) (s : Sizes) → judgement_of e b ≡ Ok s → lost e b s ≡ false → judgement_of (other e) (copied e b) ≡ Ok s
 unfolding other lost layout_of marked unmarked isnt
 copied_accepted Old b s a f =
     accepted Two (2 ∷ b) s (passed_as Old Two b (2 ∷ b) s (passed Old b s a) refl refl (two_kinds b s (passed Old b s a).kinds))
@@ -65,11 +62,11 @@ unfolding other layout_of marked
 copied_theory Old b = refl
 copied_theory Two b = refl
 
-copied_origins : (e : Edition) (b : List ℕ) (s : Sizes) → judgement_of e b ≡ Accepted s → lost e b s ≡ false → (r : ℕ) → origin_at (other e) (copied e b) r ≡ None
+copied_origins : (e : Edition) (b : List ℕ) (s : Sizes) → judgement_of e b ≡ Ok s → lost e b s ≡ false → (r : ℕ) → origin_at (other e) (copied e b) r ≡ None
 unfolding other layout_of marked
 copied_origins Old b s a f r = ap (λ z. (rule_at b z r).origin) (legal Old b s a).read ∙ old_origins b s a r
 copied_origins Two b s a f r =
-    let n : judgement_of Old (layout_of Two b) ≡ Accepted s = copied_accepted Two b s a f in
+    let n : judgement_of Old (layout_of Two b) ≡ Ok s = copied_accepted Two b s a f in
     ap (λ z. (rule_at (layout_of Two b) z r).origin) (legal Old (layout_of Two b) s n).read ∙ old_origins (layout_of Two b) s n r
 
 copied_bytes : (e : Edition) (b : List ℕ) → Bytes b → Bytes (copied e b)
@@ -87,11 +84,11 @@ unfolding other
 other_back Old = refl
 other_back Two = refl
 
-converted_back : (e : Edition) (b : List ℕ) (s : Sizes) → Bytes b → judgement_of e b ≡ Accepted s → converted (other e) (converted e b) ≡ b
+converted_back : (e : Edition) (b : List ℕ) (s : Sizes) → Bytes b → judgement_of e b ≡ Ok s → converted (other e) (converted e b) ≡ b
 converted_back e b s f a =
     ap (file_of (other (other e))) (file_says (other e) (content_of e b)) ∙ ap (λ d. file_of d (content_of e b)) (other_back e) ∙ sym (only_file e b s f a)
 
-pub conversion : (e : Edition) (b : List ℕ) (s : Sizes) → Bytes b → judgement_of e b ≡ Accepted s → lost e b s ≡ false → Conversion e b s (converted e b)
+pub conversion : (e : Edition) (b : List ℕ) (s : Sizes) → Bytes b → judgement_of e b ≡ Ok s → lost e b s ≡ false → Conversion e b s (converted e b)
 conversion e b s bytes a f =
     let same : copied e b ≡ converted e b = sym (converted_copied e b s bytes a) in
     subst (Conversion e b s) same (record {
@@ -106,12 +103,12 @@ conversion e b s bytes a f =
     })
 
 -- a call that accepts has accepted its table, and loses no origin
-call_passed : (j : Judgement) (e : Edition) (b : List ℕ) (n : ℕ) (s : Sizes) → call_judgement j e b n ≡ Accepted s → (j ≡ Accepted s) × (lost e b s ≡ false)
+call_passed : (j : Judgement) (e : Edition) (b : List ℕ) (n : ℕ) (s : Sizes) → call_judgement j e b n ≡ Ok s → (j ≡ Ok s) × (lost e b s ≡ false)
 unfolding call_judgement with_output
-call_passed (Refused k) e b n s f = absurd (refused_not f)
-call_passed (Accepted t) e b n s f =
+call_passed (Err k) e b n s f = absurd (refused_not f)
+call_passed (Ok t) e b n s f =
     let (_, g) = pass (ltb n (length (converted e b))) ShortLog _ s f in
-    let (h, k) = pass (lost e b t) HasOrigin (Accepted t) s g in
+    let (h, k) = pass (lost e b t) HasOrigin (Ok t) s g in
     (k, subst (λ z. lost e b z ≡ false) (accepted_one k) h)
 
 -- what is handed over, by what was written
@@ -124,28 +121,28 @@ converted_by e b out out' a f w =
       file = λ s c. let (g, h) = call_passed (judgement_of e b) e b (length out) s c in conversion e b s f g h;
     }
 
-module _ (e : Edition) (b out out' : List ℕ) (a : Written) (f : Bytes b) {j : Judgement} (g : j ≡ judgement_of e b) where
-  pub converted_accepted : (s : Sizes) → j ≡ Accepted s → Wrote (call_judgement (Accepted s) e b (length out)) (converted e b) out out' a → Converted e b out out' (numbers_of a)
-  converted_accepted s h w = converted_by e b out out' a f (subst (λ i. Wrote (call_judgement i e b (length out)) (converted e b) out out' a) (sym h ∙ g) w)
-
-  pub converted_not : (n : Refusal) → j ≡ Refused n → (a ≡ written.Refused n) × (out' ≡ out) → Converted e b out out' (numbers_of a)
+module _ (e : Edition) (b out out' : List ℕ) (a : Written) (f : Bytes b) where
+  pub converted_not : (n : Refusal) → judgement_of e b ≡ Err n → (a ≡ Err n) × (out' ≡ out) → Converted e b out out' (numbers_of a)
   unfolding call_judgement
   converted_not n h w =
-      converted_by e b out out' a f (wrote_not n _ (converted e b) (ap (λ i. call_judgement i e b (length out)) (sym g ∙ h)) w)
+      converted_by e b out out' a f (wrote_not n _ (converted e b) (ap (λ i. call_judgement i e b (length out)) h) w)
 
--- what was written, in each direction
-module _ (e : Edition) (b : List ℕ) (s : Sizes) (out out' : List ℕ) (a : Written) (f : Bytes b) (g : judgement_of e b ≡ Accepted s) where
-  wrote_copied : Wrote (with_output s (lost e b s) (copied e b) (length out)) (copied e b) out out' a → Wrote (call_judgement (Accepted s) e b (length out)) (converted e b) out out' a
-  unfolding call_judgement
-  wrote_copied w = subst (λ z. Wrote (with_output s (lost e b s) z (length out)) z out out' a) (sym (converted_copied e b s f g)) w
+  -- by the sizes and the layout of a table that is accepted, in each direction
+  module _ (s : Sizes) (l : List ℕ) (g : judgement_of e b ≡ Ok s) (k : l ≡ layout_of e b) where
+    converted_file : Wrote (with_output s (lost e b s) (copied e b) (length out)) (copied e b) out out' a → Converted e b out out' (numbers_of a)
+    unfolding call_judgement
+    converted_file w =
+        converted_by e b out out' a f (subst (λ j. Wrote (call_judgement j e b (length out)) (converted e b) out out' a) (sym g)
+        (subst (λ z. Wrote (with_output s (lost e b s) z (length out)) z out out' a) (sym (converted_copied e b s f g)) w))
 
-  pub wrote_two : Old ≡ e → Wrote (with_output s false (2 ∷ b) (length out)) (2 ∷ b) out out' a → Wrote (call_judgement (Accepted s) e b (length out)) (converted e b) out out' a
-  unfolding other lost layout_of marked
-  wrote_two h w = wrote_copied (subst (λ d. Wrote (with_output s (lost d b s) (copied d b) (length out)) (copied d b) out out' a) h w)
+    pub converted_two : e ≡ Old → Wrote (with_output s false (2 ∷ l) (length out)) (2 ∷ l) out out' a → Converted e b out out' (numbers_of a)
+    unfolding other lost marked
+    converted_two h w =
+        converted_file (subst (λ d. Wrote (with_output s (lost d b s) (copied d b) (length out)) (copied d b) out out' a) (sym h)
+        (subst (λ z. Wrote (with_output s false (2 ∷ z) (length out)) (2 ∷ z) out out' a) (k ∙ ap (λ d. layout_of d b) h) w))
 
-  pub wrote_old : {l : List ℕ} → Two ≡ e → l ≡ layout_of e b → Wrote (with_output s (has_origin l s) l (length out)) l out out' a
-      → Wrote (call_judgement (Accepted s) e b (length out)) (converted e b) out out' a
-  unfolding other lost marked
-  wrote_old h k w =
-      wrote_copied (subst (λ d. Wrote (with_output s (lost d b s) (copied d b) (length out)) (copied d b) out out' a) h
-      (subst (λ z. Wrote (with_output s (has_origin z s) z (length out)) z out out' a) (k ∙ ap (λ d. layout_of d b) (sym h)) w))
+    pub converted_old : e ≡ Two → Wrote (with_output s (has_origin l s) l (length out)) l out out' a → Converted e b out out' (numbers_of a)
+    unfolding other lost marked
+    converted_old h w =
+        converted_file (subst (λ d. Wrote (with_output s (lost d b s) (copied d b) (length out)) (copied d b) out out' a) (sym h)
+        (subst (λ z. Wrote (with_output s (has_origin z s) z (length out)) z out out' a) (k ∙ ap (λ d. layout_of d b) h) w))

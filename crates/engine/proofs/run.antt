@@ -1,5 +1,6 @@
 -- Laws of the run, over the contracts of the memory alone.
 pub mod Trying
+pub mod Lending
 pub mod Users
 pub mod Opening
 pub mod Tallies

@@ -1,14 +1,12 @@
 -- Document 01, The rule of working, and its price: what a run answers, and what it leaves in the log and the scratch.
-use Rattle.std.specs.Prelude.{ℕ, ◌*◌, ◌≡◌, cond, List, ◌++◌, ltb, length, drop, replicate}
+use Rattle.std.specs.Prelude.{ℕ, ◌*◌, ◌≡◌, cond, List, ◌++◌, ltb, length, drop, replicate, Ok, Err}
 use Rattle.logic.specs.Theory.{Theory, size}
 use Rattle.logic.specs.Worklist.{Outcome, log_of, lines, worked, run}
 use Rattle.logic.specs.Plain.{plain_system, bound}
 use Rattle.logic.specs.Demands.{Demands}
 use Rattle.table.specs.declared.format.Sizes.{Sizes}
 use Rattle.table.specs.declared.judge.Refusal.TheVariants.{ShortScratch, ShortLog}
-use Rattle.table.specs.declared.judge.Judgement.{Judgement}
-use Rattle.table.specs.declared.judge.Judgement.TheVariants as judgement
-use Rattle.table.specs.Refusals.{number_of}
+use Rattle.table.specs.Refusals.{Judgement, number_of}
 use Rattle.engine.specs.declared.answer.Counts.{Counts}
 use Rattle.engine.specs.declared.answer.Numbers.{Numbers}
 use Rattle.engine.specs.declared.answer.Answer.{Answer}
@@ -34,9 +32,9 @@ run_of d budget = run (plain_system d) budget
 -- 8: "lent scratch below 32,768 16-bit words", after 1 to 7. Then 9, where the log does not hold "all lines written by the end of the run
 -- under the given budget" (document 02, S-2).
 unfoldable pub with_buffers : Judgement → Outcome → ℕ → ℕ → Judgement
-with_buffers (judgement.Accepted s) o scratch log =
-    cond (ltb scratch 32768) (judgement.Refused ShortScratch) (cond (ltb log (lines o)) (judgement.Refused ShortLog) (judgement.Accepted s))
-with_buffers (judgement.Refused n) o scratch log = judgement.Refused n
+with_buffers (Ok s) o scratch log =
+    cond (ltb scratch 32768) (Err ShortScratch) (cond (ltb log (lines o)) (Err ShortLog) (Ok s))
+with_buffers (Err n) o scratch log = Err n
 
 -- the judgement of a call: of its table, which says a theory, then of the words of scratch and of log that are lent
 abbrev pub call_judgement : Judgement → Theory → ℕ → ℕ → ℕ → Judgement
@@ -50,18 +48,18 @@ abbrev pub answer_of : Outcome → Answer
 answer_of o = cond o.finished (Finished (counts_in o)) (Stopped (counts_in o))
 
 unfoldable pub answer_to : Judgement → Outcome → Answer
-answer_to (judgement.Accepted s) o = answer_of o
-answer_to (judgement.Refused n) o = Refused n
+answer_to (Ok s) o = answer_of o
+answer_to (Err n) o = Refused n
 
 -- "Log words past the lines are untouched"; "A refusal .. writes nothing."
 unfoldable pub log_after : Judgement → Outcome → List ℕ → List ℕ
-log_after (judgement.Accepted s) o log = log_of o ++ drop (lines o) log
-log_after (judgement.Refused n) o log = log
+log_after (Ok s) o log = log_of o ++ drop (lines o) log
+log_after (Err n) o log = log
 
 -- "on every accepted call the first 32,768 scratch words are 0 and the rest untouched"
 unfoldable pub scratch_after : Judgement → List ℕ → List ℕ
-scratch_after (judgement.Accepted s) scratch = replicate 32768 0 ++ drop 32768 scratch
-scratch_after (judgement.Refused n) scratch = scratch
+scratch_after (Ok s) scratch = replicate 32768 0 ++ drop 32768 scratch
+scratch_after (Err n) scratch = scratch
 
 -- What a run hands over: the answer's numbers, both buffers whole, and, with the run, demands 2 and 3. It is about the judgement of a table
 -- and the theory that the table says, and nothing else of the table: two tables that have the same have the same run, whatever their
@@ -71,4 +69,4 @@ pub record Ran (j : Judgement) (d : Theory) (budget : ℕ) (log log' scratch scr
   pub answer : n ≡ numbers_of (answer_to (call_judgement j d budget (length scratch) (length log)) (run_of d budget))
   pub written : log' ≡ log_after (call_judgement j d budget (length scratch) (length log)) (run_of d budget) log
   pub cleared : scratch' ≡ scratch_after (call_judgement j d budget (length scratch) (length log)) scratch
-  pub demands : (s : Sizes) → j ≡ judgement.Accepted s → Demands (plain_system d) (bound d) (5 * size d) budget
+  pub demands : (s : Sizes) → j ≡ Ok s → Demands (plain_system d) (bound d) (5 * size d) budget

@@ -1,3 +1,4 @@
 pub mod Answers
 pub mod Working
 pub mod Tallies
+pub mod Lines

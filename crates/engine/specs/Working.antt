@@ -6,11 +6,10 @@ use Rattle.logic.specs.System.{derivation}
 use Rattle.logic.specs.Worklist.{Outcome, log_of, lines, grow, initial}
 use Rattle.logic.specs.Reading.{heads}
 use Rattle.logic.specs.Plain.{plain_system}
-use Rattle.table.specs.declared.format.Sizes.{Sizes}
-use Rattle.table.specs.Format.{theory_in}
-use Rattle.table.specs.Refusals.{Legal}
+use Rattle.table.specs.declared.accepted.Table.{Table}
+use Rattle.table.specs.Tables.{theory_said}
 use Rattle.engine.specs.declared.answer.Answer.{Answer}
-use Rattle.memory.specs.Layout.{tag_count, memory_size}
+use Rattle.memory.specs.Layout.{tag_count}
 use Rattle.memory.specs.Memory.{held_of, written_of, Ready}
 use Rattle.memory.specs.Api.{adds, Kept}
 use Rattle.engine.specs.Answers.{answer_of}
@@ -67,12 +66,10 @@ pub record Opened (d : Theory) (mem log mem' log' : List ℕ) (n : ℕ) : Type 0
   pub held : (x : ℕ) → held_of mem' x ≡ held_of mem x
   pub kept : Kept mem mem'
 
--- A run whose start is paid, of an accepted table, and with words enough for its memory.
-pub record Paid (b : List ℕ) (s : Sizes) (budget start : ℕ) (mem : List ℕ) : Type 0 where
-  pub accepted : Legal b s
-  pub size : start ≡ size (theory_in b s)
+-- The start of a run of an accepted table is paid.
+pub record Paid (t : Table) (budget start : ℕ) : Type 0 where
+  pub size : start ≡ size (theory_said t)
   pub within : start ≤ budget
-  pub words : memory_size ≤ length mem
 
 -- The run is at its end.
 pub record Worked (o : Outcome) (mem log mem' log' : List ℕ) (a : Answer) : Type 0 where

@@ -12,6 +12,7 @@ pub struct Counts {
     pub spent: u32,
 }
 
+// An enum of its own, and no Result: document 01 asks for an answer of three cases that holds the refusal.
 #[derive(Clone, Copy)]
 pub enum Answer {
     Refused(Refusal),
@@ -44,13 +45,14 @@ fn run_numbers(finished: u32, c: Counts) -> Numbers
     }
 }
 
-impl Answer {
-    pub fn numbers(self) -> Numbers
-        ensures { result ≡ numbers_of self }
-    {
-        match self {
+impl From<Answer> for Numbers {
+    ghost from_gives = { λ answer numbers. numbers ≡ numbers_of answer };
+
+    #[tactic(auto, unfolding(crate::specs::Answers::numbers_of))]
+    fn from(answer: Answer) -> Numbers {
+        match answer {
             Answer::Refused(why) => Numbers {
-                refused: why.number() as u32,
+                refused: u32::from(why),
                 finished: 0,
                 lines: 0,
                 worked: 0,

@@ -2,6 +2,7 @@
 #![tactic(auto)]
 
 pub mod answer;
+mod lines;
 pub mod run;
 mod tally;
 mod tries;

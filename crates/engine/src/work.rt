@@ -1,73 +1,60 @@
 // The worklist (document 01, The rule of working, and its price): the initial conclusions are written, and then the lines are
 // processed in the log's order, each for its cost, while it fits the budget.
-ghost use Rattle.std.specs.Prelude.{ℕ, ◌*◌, ◌≤◌, ◌≡◌, false, length, take};
+ghost use Rattle.std.specs.Prelude.{ℕ, ◌≤◌, ◌≡◌, false, take};
 ghost use Rattle.logic.specs.Theory.{size};
 ghost use Rattle.logic.specs.Worklist.{initial, run};
 ghost use Rattle.logic.specs.Plain.{plain_system};
-ghost use Rattle.table.specs.Format.{theory_in};
-ghost use Rattle.table.specs.Refusals.{Legal};
-ghost use Rattle.memory.specs.Layout.{tag_count};
+ghost use Rattle.table.specs.Tables.{theory_said};
 ghost use Rattle.memory.specs.Memory.{held_of};
-ghost use Rattle.engine.specs.Working.{Blank, Logged, Opened, Worked};
+ghost use Rattle.engine.specs.Working.{Blank, Opened, Worked};
+ghost use Rattle.engine.specs.Lines.{Lent};
 
 use crate::answer::{Answer, Counts};
-use crate::tally::{Progress, Tally, process_next};
-use crate::tries::try_literal;
-use table::format::Sizes;
-
-// What follows from nothing is written.
-pub fn write_initial(table: &[u8], s: Sizes, mem: &mut [u16], log: &mut [u16]) -> u32
-    requires { Legal table.now s × (tag_count * s.atoms ≤ length log.old) × Blank (theory_in table.now s) mem.old }
-    ensures { Opened (theory_in table.now s) mem.old log.old mem.new log.new result }
-{
-    let end = 2 * s.atoms;
-    let mut n: u32 = 0;
-    let mut q: u16 = 0;
-    while q < end {
-        n = try_literal(table, s, mem, log, n, q);
-        q += 1;
-    }
-    n
-}
+use crate::lines::Lines;
+use crate::tally::Tally;
 
 // "worked and spent are those that the tally holds at the end"
-fn counts_in(at: Progress) -> Counts
-    ensures { (result.lines ≡ at.lines) × (result.worked ≡ at.tally.worked) × (result.spent ≡ at.tally.spent) }
+fn counts_in(lines: u32, tally: Tally) -> Counts
+    ensures { (result.lines ≡ lines) × (result.worked ≡ tally.worked) × (result.spent ≡ tally.spent) }
 {
     Counts {
-        lines: at.lines,
-        worked: at.tally.worked,
-        spent: at.tally.spent,
+        lines,
+        worked: tally.worked,
+        spent: tally.spent,
     }
 }
 
-// The lines are processed; the first whose cost does not fit what is left stops the run: the tally is as it was.
-pub fn work(
-    table: &[u8],
-    s: Sizes,
-    budget: u32,
-    mem: &mut [u16],
-    log: &mut [u16],
-    opened: u32,
-    start: u32,
-) -> Answer
-    requires legal { Legal table.now s × Logged (theory_in table.now s) mem.old log.old opened × (take opened log.old ≡ initial (plain_system (theory_in table.now s))) × ((x : ℕ) → held_of mem.old x ≡ false) }
-    requires start_value { (start ≡ size (theory_in table.now s)) × (start ≤ budget) }
-    ensures { Worked (run (plain_system (theory_in table.now s)) budget) mem.old log.old mem.new log.new result }
-{
-    let mut at = Progress {
-        lines: opened,
-        tally: Tally {
+impl Lines<'_> {
+    // What follows from nothing is written.
+    pub fn write_initial(&mut self)
+        requires { Blank (theory_said self.old.table) self.old.mem.now × (self.old.count ≡ 0) }
+        ensures opened { Opened (theory_said self.old.table) self.old.mem.now self.old.log.now self.new.mem.now self.new.log.now self.new.count }
+        ensures lent { Lent self.old self.new }
+    {
+        for q in 0..2 * self.table.sizes.atoms {
+            self.try_literal(q);
+        }
+    }
+
+    // The lines are processed; the first whose cost does not fit what is left stops the run: the tally is as it was.
+    // A `while`, since no range has its end: the number of lines grows in the loop.
+    pub fn work(&mut self, budget: u32, start: u32) -> Answer
+        requires opened { (take self.old.count self.old.log.now ≡ initial (plain_system (theory_said self.old.table))) × ((x : ℕ) → held_of self.old.mem.now x ≡ false) }
+        requires paid { (start ≡ size (theory_said self.old.table)) × (start ≤ budget) }
+        ensures worked { Worked (run (plain_system (theory_said self.old.table)) budget) self.old.mem.now self.old.log.now self.new.mem.now self.new.log.now result }
+        ensures lent { Lent self.old self.new }
+    {
+        let mut tally = Tally {
             worked: 0,
             spent: start,
-        },
-    };
-    while at.tally.worked < at.lines {
-        let next = process_next(table, s, budget, mem, log, at);
-        if next.tally.worked == at.tally.worked {
-            return Answer::Stopped(counts_in(next));
+        };
+        while tally.worked < self.count {
+            let next = self.process_next(budget, tally);
+            if next.worked == tally.worked {
+                return Answer::Stopped(counts_in(self.count, next));
+            }
+            tally = next;
         }
-        at = next;
+        Answer::Finished(counts_in(self.count, tally))
     }
-    Answer::Finished(counts_in(at))
 }

@@ -6,7 +6,7 @@ use borrow.Author.Tests.{le-ltb, eq-eqb}
 use mathlib.Core.Path.{◌≡◌, refl, sym, ◌∙◌, ap, ap₂, subst}
 use mathlib.Core.Logic.{inr, ⊎_elim}
 use mathlib.Core.Bool.{Bool, false}
-use mathlib.Core.List.{List, map}
+use mathlib.Core.List.{List, map, map-map}
 use lib.Dec.{T, ltb, eqb, leb→le, lt→ltb}
 use lib.ListN.{length, get_or}
 use Rattle.logic.specs.Tests.{◌and◌, ◌or◌, isnt, every, upto}
@@ -17,18 +17,17 @@ use Rattle.logic.proofs.Lists.{member_upto}
 use Rattle.logic.proofs.Rising.{rising_upto}
 use Rattle.logic.proofs.Cycle.{cyclic_sound}
 use Rattle.table.specs.declared.format.Sizes.{Sizes}
-use Rattle.table.specs.declared.judge.Judgement.TheVariants.{Accepted}
+use Rattle.std.specs.Prelude.{Ok}
 use Rattle.table.specs.declared.edition.Edition.{Edition}
 use Rattle.table.specs.declared.edition.Edition.TheVariants.{Old, Two}
 use Rattle.table.specs.Editions.{layout_of, unmarked}
-use Rattle.table.specs.Format.{sizes_of, left, rules_from, kind_of, origin_of, origin_number, fact_at, entry_at, pair_at}
+use Rattle.table.specs.Format.{kind_number, sizes_of, left, rules_from, kind_of, origin_of, origin_number, fact_at, entry_at, pair_at}
 use Rattle.table.specs.Refusals.{truncated, oversize, wrong_length, some_at_least, bad_fact, bad_left, bad_rule, bad_kind, out_of_range, section_from, section_size, left_from, section_left, section_right, rises, disorder, cycle, judgement_of, Legal}
 use Rattle.table.proofs.Legal.{Passed, passed, accepted, legal, Ranged, ranged, proper_theory, rule_below, no_cycle, left_in_lem}
 use Rattle.table.proofs.Sections.{no_disorder}
 use Rattle.table.proofs.Sorted.{Before, before_left, before_right, facts_rise, entries_rise, pairs_rise}
 use Rattle.content.proofs.Files.{left_small, rule_left, origin_back}
-use Rattle.files.specs.Contents.{Content, content_in, content_of, fact_of, rule_of, entry_of, pair_of, sizes_for, Row, fact_row, kind_number, rule_row, entry_row, pair_row, words_of, bytes_of, marked, file_of, theory_from}
-use Rattle.files.proofs.Lists.{map_map}
+use Rattle.files.specs.Contents.{Content, content_in, content_of, fact_of, rule_of, entry_of, pair_of, sizes_for, Row, fact_row, rule_row, entry_row, pair_row, words_of, bytes_of, marked, file_of, theory_from}
 use Rattle.files.proofs.Proper.{RowBefore, Rising, Proper}
 use Rattle.files.proofs.Theories.{fact_literal, head_literal, entry_literal, pair_rules}
 use Rattle.files.proofs.Saying.{sizes_say, rule_says, entry_says, theory_says}
@@ -139,7 +138,7 @@ module _ (e : Edition) (c : Content) (p : Proper e c) where
       }
 
 -- The file of a proper content is accepted.
-pub file_accepted : (e : Edition) (c : Content) → Proper e c → judgement_of e (file_of e c) ≡ Accepted (sizes_for c)
+pub file_accepted : (e : Edition) (c : Content) → Proper e c → judgement_of e (file_of e c) ≡ Ok (sizes_for c)
 file_accepted e c p = accepted e (file_of e c) (sizes_for c) (file_passed e c p)
 
 -- a left word that is not bad is that of its kind and its origin
@@ -167,7 +166,7 @@ before_second x y h = inr (refl, h)
 
 -- rows that rise as they are read
 read_rise : {A : Type 0} (f : A → Row) (g : ℕ → A) (n : ℕ) → ((i j : ℕ) → i < j → j < n → RowBefore (f (g i)) (f (g j))) → Rising (map f (map g (upto n)))
-read_rise f g n r = subst Rising (sym (map_map f g (upto n))) (rows_rise _ (upto n) (rising_upto n) (λ i j h _ v. r i j h (member_upto n j v)))
+read_rise f g n r = subst Rising (sym (map-map f g (upto n))) (rows_rise _ (upto n) (rising_upto n) (λ i j h _ v. r i j h (member_upto n j v)))
 
 -- a rule's left word is that of the rule that it says
 pub left_said : (e : Edition) (b : List ℕ) (s : Sizes) → bad_kind e b s ≡ false → (r : ℕ) → r < s.rules → (rule_row (rule_of (content_in b s) r)).left ≡ left b (rules_from s + r)
@@ -190,6 +189,6 @@ layout_proper e b s l k =
     }
 
 -- What an accepted file says is a proper content.
-pub content_proper : (e : Edition) (b : List ℕ) (s : Sizes) → judgement_of e b ≡ Accepted s → Proper e (content_of e b)
+pub content_proper : (e : Edition) (b : List ℕ) (s : Sizes) → judgement_of e b ≡ Ok s → Proper e (content_of e b)
 content_proper e b s a =
     subst (λ z. Proper e (content_in (layout_of e b) z)) (sym (passed e b s a).read) (layout_proper e (layout_of e b) s (legal e b s a) (passed e b s a).kinds)

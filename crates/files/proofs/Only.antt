@@ -9,7 +9,7 @@ use lib.ListN.{length, get_or}
 use lib.Seq.{ext_get_or}
 use Rattle.logic.proofs.Tests.{at_most}
 use Rattle.table.specs.declared.format.Sizes.{Sizes}
-use Rattle.table.specs.declared.judge.Judgement.TheVariants.{Accepted}
+use Rattle.std.specs.Prelude.{Ok}
 use Rattle.table.specs.declared.edition.Edition.{Edition}
 use Rattle.table.specs.declared.edition.Edition.TheVariants.{Old, Two}
 use Rattle.table.specs.Editions.{Bytes, layout_of, unmarked}
@@ -111,7 +111,7 @@ marked_layout Old b h = refl
 marked_layout Two b h = marked_file b h
 
 -- An edition and a content have no other accepted file.
-pub only_file : (e : Edition) (b : List ℕ) (s : Sizes) → Bytes b → judgement_of e b ≡ Accepted s → b ≡ file_of e (content_of e b)
+pub only_file : (e : Edition) (b : List ℕ) (s : Sizes) → Bytes b → judgement_of e b ≡ Ok s → b ≡ file_of e (content_of e b)
 only_file e b s f a =
     let p = passed e b s a in
     marked_layout e b (judged.marked e b p.whole)

@@ -17,10 +17,10 @@ use Rattle.table.specs.declared.format.Origin.TheVariants.{None, House, Tour, Co
 use Rattle.table.specs.declared.edition.Edition.{Edition}
 use Rattle.table.specs.declared.edition.Edition.TheVariants.{Old, Two}
 use Rattle.table.specs.Editions.{layout_of}
-use Rattle.table.specs.Format.{word, sizes_of, span_of, left, right, facts_from, rules_from, entries_from, pairs_from, left_in, kind_of, origin_of, origin_number, fact_at, rule_at, entry_at, pair_at}
+use Rattle.table.specs.Format.{kind_number, word, sizes_of, span_of, left, right, facts_from, rules_from, entries_from, pairs_from, left_in, kind_of, origin_of, origin_number, fact_at, rule_at, entry_at, pair_at}
 use Rattle.table.proofs.Legal.{left_in_lem, right_in_lem}
 use Rattle.table.proofs.Bodies.{word_inside}
-use Rattle.files.specs.Contents.{Content, content_in, content_of, fact_of, rule_of, entry_of, pair_of, sizes_for, Row, fact_row, kind_number, rule_row, entry_row, pair_row, rows_of, words_of, bytes_of, marked, file_of}
+use Rattle.files.specs.Contents.{Content, content_in, content_of, fact_of, rule_of, entry_of, pair_of, sizes_for, Row, fact_row, rule_row, entry_row, pair_row, rows_of, words_of, bytes_of, marked, file_of}
 use Rattle.files.proofs.Proper.{row_at}
 use Rattle.files.proofs.Saying.{count_upto_map, at_upto}
 

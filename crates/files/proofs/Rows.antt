@@ -11,7 +11,8 @@ use Rattle.logic.proofs.Lists.{member_get_d}
 use Rattle.logic.proofs.Rising.{rising_from}
 use Rattle.table.proofs.Sorted.{Before}
 use Rattle.files.specs.Contents.{Row, fact_row}
-use Rattle.files.proofs.Lists.{at_map, rising_places}
+use Rattle.files.proofs.Lists.{rising_places}
+use Rattle.std.proofs.lemmas.List.{get_or-map}
 use Rattle.files.proofs.Proper.{RowBefore, Rising}
 use Rattle.files.proofs.Reading.{row_of}
 
@@ -20,7 +21,7 @@ pub rows_rise : (g : ℕ → Row) (l : List ℕ) → T (rising_from 0 l) → ((i
 rows_rise g l t r i j h k =
     let v : j < length l = subst (λ z. j < z) (length-map l g) k in
     let u : i < length l = lt_trans h v in
-    coe 0 1 (z. RowBefore (sym (at_map g l i 0 (fact_row 0) u) z) (sym (at_map g l j 0 (fact_row 0) v) z))
+    coe 0 1 (z. RowBefore (sym (get_or-map g l i 0 (fact_row 0) u) z) (sym (get_or-map g l j 0 (fact_row 0) v) z))
     (r _ _ (rising_places 0 l t i j h v) (member_get_d l i u) (member_get_d l j v))
 
 -- rows that rise, by what is listed

@@ -12,7 +12,7 @@ use Rattle.logic.specs.Tests.{upto, pick}
 use Rattle.logic.proofs.Tests.{at_most, lt_suc_cases}
 use Rattle.logic.proofs.Lists.{length_upto}
 use Rattle.table.specs.declared.format.Sizes.{Sizes}
-use Rattle.table.specs.declared.judge.Judgement.TheVariants.{Accepted}
+use Rattle.std.specs.Prelude.{Ok}
 use Rattle.table.specs.declared.edition.Edition.{Edition}
 use Rattle.table.specs.Editions.{layout_of}
 use Rattle.table.specs.Format.{sizes_of, facts_from, rules_from, entries_from, pairs_from, kind_of, kind_meant, origin_of, fact_at, rule_at, entry_at, pair_at, body_in, theory_in, theory_of}
@@ -95,5 +95,5 @@ pub file_theory : (e : Edition) (b : List ℕ) → theory_of e b ≡ theory_from
 file_theory e b = theory_says (layout_of e b) (sizes_of (layout_of e b))
 
 -- what a table says, by the sizes that it was judged by
-pub said : (e : Edition) (b l : List ℕ) (s : Sizes) → judgement_of e b ≡ Accepted s → l ≡ layout_of e b → content_in l s ≡ content_of e b
+pub said : (e : Edition) (b l : List ℕ) (s : Sizes) → judgement_of e b ≡ Ok s → l ≡ layout_of e b → content_in l s ≡ content_of e b
 said e b l s a f = ap₂ content_in f (sym (legal e b s a).read)

@@ -3,8 +3,7 @@ use Rattle.std.specs.Prelude.{ℕ, ◌+◌, ◌*◌, ◌/◌, ◌%◌, List, [],
 use Rattle.logic.specs.Tests.{upto, pick}
 use Rattle.logic.specs.Theory as theory
 use Rattle.table.specs.declared.format.Sizes.{Sizes}
-use Rattle.table.specs.declared.format.Kind.{Kind}
-use Rattle.table.specs.declared.format.Kind.TheVariants.{Strict, Defeasible, Defeater}
+use Rattle.table.specs.declared.format.Kind.TheVariants.{Strict}
 use Rattle.table.specs.declared.format.Origin.TheVariants.{None}
 use Rattle.table.specs.declared.format.Rule.{Rule}
 use Rattle.table.specs.declared.format.Entry.{Entry}
@@ -12,7 +11,7 @@ use Rattle.table.specs.declared.format.Pair.{Pair}
 use Rattle.table.specs.declared.edition.Edition.{Edition}
 use Rattle.table.specs.declared.edition.Edition.TheVariants.{Old, Two}
 use Rattle.table.specs.Editions.{layout_of}
-use Rattle.table.specs.Format.{sizes_of, origin_number, kind_meant, fact_at, rule_at, entry_at, pair_at}
+use Rattle.table.specs.Format.{sizes_of, kind_number, origin_number, kind_meant, fact_at, rule_at, entry_at, pair_at}
 
 -- A, facts, rules with kind, origin and head, antecedent entries, pairs
 pub record Content : Type 0 where
@@ -71,11 +70,6 @@ abbrev pub fact_row : ℕ → Row
 fact_row q = record { left = 0; right = q }
 
 -- "N rules, numbered from 0: left the kind, right the head", and "a rule's left word is kind + 4 × origin"
-abbrev pub kind_number : Kind → ℕ
-kind_number Strict = 0
-kind_number Defeasible = 1
-kind_number Defeater = 2
-
 abbrev pub rule_row : Rule → Row
 rule_row r = record { left = kind_number r.kind + 4 * origin_number r.origin; right = r.head.0 }
 

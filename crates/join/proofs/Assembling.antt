@@ -2,8 +2,8 @@
 use Prim.Native.Nat.{ℕ, ◌+◌, ◌-◌, ◌*◌, ◌≤◌, ◌<◌}
 use native.Mathlib.Nat.{zero-add, sub-zero}
 use native.Mathlib.Omega.{arith}
-use mathlib.Core.Path.{◌≡◌, sym, ◌∙◌, ap, ap₂}
-use mathlib.Core.List.{List, ◌++◌, map, map-append, append_assoc}
+use mathlib.Core.Path.{◌≡◌, sym, ◌∙◌, ap, ap₂, subst}
+use mathlib.Core.List.{List, ◌++◌, map, map-append, append_assoc, map-map}
 use lib.Dec.{eqb}
 use lib.ListN.{length, length-append, length-map}
 use Rattle.logic.specs.Tests.{◌or◌, total, count_below, upto, pick}
@@ -25,10 +25,10 @@ use Rattle.writing.specs.Columns.{word_in, with_words, column}
 use Rattle.writing.proofs.Appending.{words_then, column_length}
 use Rattle.joining.specs.Joining.{in_either, over, pairs_below, joined}
 use Rattle.joining.proofs.Lists.{map_below}
-use Rattle.files.proofs.Lists.{map_map}
 use Rattle.joining.proofs.Pairing.{pairs_canonical}
 use Rattle.joining.proofs.Rows.{tour_rows, pairs_count}
-use Rattle.join.specs.Written.{Words, pair_words, RulesOfBoth}
+use Rattle.join.specs.Heads.{ByHeads}
+use Rattle.join.specs.Written.{Words, pair_words, RulesOfBoth, HousePairs}
 use Rattle.join.proofs.Rowing.{words_after}
 
 module _ (b : List ℕ) (s : Sizes) (c : List ℕ) (t : Sizes) where
@@ -106,13 +106,13 @@ module _ (b : List ℕ) (s : Sizes) (c : List ℕ) (t : Sizes) where
 
     section_words : {A : Type 0} (row : A → Row) (f : ℕ → A) (n : ℕ) → column side (λ i. row (f i)) n ≡ words row (map f (upto n))
     unfolding words
-    section_words row f n = sym (ap (map (word_in side)) (map_map row f (upto n)) ∙ map_map (word_in side) (λ i. row (f i)) (upto n))
+    section_words row f n = sym (ap (map (word_in side)) (map-map row f (upto n)) ∙ map-map (word_in side) (λ i. row (f i)) (upto n))
 
     fact_words : (facts others : List ℕ) → MarkedBy (is_fact (theory_in b s)) 1024 facts → MarkedBy (is_fact (theory_in c t)) 1024 others → 2 * s.atoms ≤ 1024
         → map (λ q. word_in side (fact_row q)) (pick (upto (2 * s.atoms)) (λ q. marked facts q or marked others q)) ≡ words fact_row joined_in.facts
     unfolding joined_in words
     fact_words facts others f g h =
-        sym (map_map (word_in side) fact_row (pick (upto (2 * s.atoms)) (λ q. marked facts q or marked others q)))
+        sym (map-map (word_in side) fact_row (pick (upto (2 * s.atoms)) (λ q. marked facts q or marked others q)))
         ∙ ap (λ l. map (word_in side) (map fact_row l)) (pick_same (upto (2 * s.atoms)) (in_either (theory_in b s) (theory_in c t)) (λ q. marked facts q or marked others q) (λ q m.
         let k : q < 2 * s.atoms = member_upto (2 * s.atoms) q m in
         ap₂ ◌or◌ (marked_by (is_fact (theory_in b s)) f q (omega arith)) (marked_by (is_fact (theory_in c t)) g q (omega arith))))
@@ -135,18 +135,18 @@ module _ (b : List ℕ) (s : Sizes) (c : List ℕ) (t : Sizes) where
         (map_below _ (λ i. word_in side (entry_row (entry_at b s i))) s.entries (λ i _. ap (λ e. word_in side (entry_row e)) (entry_kept_lem (entry_at b s i)))
         ∙ section_words entry_row (entry_at b s) s.entries)
         (section_words entry_row (λ i. later_entry s.rules (entry_at c t i)) t.entries
-        ∙ ap (words entry_row) (sym (map_map (later_entry s.rules) (entry_at c t) (upto t.entries))))
+        ∙ ap (words entry_row) (sym (map-map (later_entry s.rules) (entry_at c t) (upto t.entries))))
         ∙ sym (words_append entry_row (map (entry_at b s) (upto s.entries)) (map (later_entry s.rules) (map (entry_at c t) (upto t.entries))))
 
     pair_words_lem : Legal b s → Legal c t → pair_words side (pairs_below s.rules (s.rules + t.rules) (over (theory_in b s) (theory_in c t)))
         ++ column side (λ i. pair_row (later_pair s.rules (pair_at c t (0 + i)))) (t.pairs - 0) ≡ words pair_row joined_in.pairs
     unfolding joined_in words
     pair_words_lem l m =
-        ap₂ ◌++◌ (sym (map_map (word_in side) pair_row (pairs_below s.rules (s.rules + t.rules) (over (theory_in b s) (theory_in c t)))))
+        ap₂ ◌++◌ (sym (map-map (word_in side) pair_row (pairs_below s.rules (s.rules + t.rules) (over (theory_in b s) (theory_in c t)))))
         (ap (λ n. column side (λ i. pair_row (later_pair s.rules (pair_at c t (0 + i)))) n) (sub-zero t.pairs)
         ∙ map_below _ (λ i. word_in side (pair_row (later_pair s.rules (pair_at c t i)))) t.pairs (λ i _. ap (λ j. word_in side (pair_row (later_pair s.rules (pair_at c t j)))) (zero-add i))
         ∙ section_words pair_row (λ i. later_pair s.rules (pair_at c t i)) t.pairs
-        ∙ ap (λ l. map (word_in side) (map pair_row l)) (sym (map_map (later_pair s.rules) (pair_at c t) (upto t.pairs)) ∙ ap (map (later_pair s.rules)) (pairs_canonical c t m)))
+        ∙ ap (λ l. map (word_in side) (map pair_row l)) (sym (map-map (later_pair s.rules) (pair_at c t) (upto t.pairs)) ∙ ap (map (later_pair s.rules)) (pairs_canonical c t m)))
         ∙ sym (words_append pair_row (pairs_below s.rules (s.rules + t.rules) (over (theory_in b s) (theory_in c t))) (map (later_pair s.rules) (pairs_below t.rules t.rules (superior (theory_in c t)))))
         ∙ ap (λ l. map (word_in side) (map pair_row l)) (sym (tour_rows b s l c t m))
 
@@ -182,11 +182,13 @@ module _ (b : List ℕ) (s : Sizes) (c : List ℕ) (t : Sizes) where
     pub side_words : (l : Legal b s) (m : Legal c t) (facts others : List ℕ) → MarkedBy (is_fact (theory_in b s)) 1024 facts → MarkedBy (is_fact (theory_in c t)) 1024 others
         → (out o₁ o₂ o₃ : List ℕ) {o₄ : List ℕ} (at : ℕ) {n p₂ p₃ : ℕ} → n ≡ length (joined (content_in b s) (content_in c t)).facts
         → o₁ ≡ with_words out at (map (λ q. word_in side (fact_row q)) (pick (upto (2 * s.atoms)) (λ q. marked facts q or marked others q)))
-        → RulesOfBoth side b s c t o₁ (at + 2 * n) o₂ p₂ → Words o₂ p₂ (pair_words side (pairs_below s.rules (s.rules + t.rules) (over (theory_in b s) (theory_in c t)))) o₃ p₃
-        → o₄ ≡ with_words o₃ p₃ (column side (λ i. pair_row (later_pair s.rules (pair_at c t (0 + i)))) (t.pairs - 0))
+        → RulesOfBoth side b s c t o₁ (at + 2 * n) o₂ p₂ → {rules pairs : ℕ} {first next : List ℕ} → ByHeads (theory_in c t) first next → rules ≡ t.rules
+        → HousePairs side s.rules b s rules first next o₂ p₂ o₃ p₃ → pairs ≡ t.pairs
+        → o₄ ≡ with_words o₃ p₃ (column side (λ i. pair_row (later_pair s.rules (pair_at c t (0 + i)))) (pairs - 0))
         → o₄ ≡ with_words out at (map (word_in side) (rows_of (joined (content_in b s) (content_in c t))))
-    side_words l m facts others f g out o₁ o₂ o₃ at {n} {p₂} {p₃} e u v w z =
-        words_then out at ((F ++ (R ++ E)) ++ H) K three.1 three.0 z ∙ ap (with_words out at) whole
+    side_words l m facts others f g out o₁ o₂ o₃ at {n} {p₂} {p₃} e u v x y w r z =
+        words_then out at ((F ++ (R ++ E)) ++ H) K three.1 three.0 (z ∙ ap (λ k. with_words o₃ p₃ (column side (λ i. pair_row (later_pair s.rules (pair_at c t (0 + i)))) (k - 0))) r)
+        ∙ ap (with_words out at) whole
       where
         F : List ℕ
         F = map (λ q. word_in side (fact_row q)) (pick (upto (2 * s.atoms)) (λ q. marked facts q or marked others q))
@@ -209,8 +211,11 @@ module _ (b : List ℕ) (s : Sizes) (c : List ℕ) (t : Sizes) where
         first : Words out at F o₁ (at + 2 * n)
         first = (ap (λ k. at + 2 * k) (e ∙ ap (λ x. length x.facts) joined_in_lem ∙ sym (words_length fact_row joined_in.facts) ∙ ap length (sym (fact_words facts others f g literals))), u)
 
+        house : Words o₂ p₂ H o₃ p₃
+        house = subst (λ k. Words o₂ p₂ (pair_words side (pairs_below s.rules (s.rules + k) (over (theory_in b s) (theory_in c t)))) o₃ p₃) y (w c t m (sym y) x)
+
         three : Words out at ((F ++ (R ++ E)) ++ H) o₃ p₃
-        three = words_after out at (F ++ (R ++ E)) H (words_after out at F (R ++ E) first v) w
+        three = words_after out at (F ++ (R ++ E)) H (words_after out at F (R ++ E) first v) house
 
         whole : ((F ++ (R ++ E)) ++ H) ++ K ≡ map (word_in side) (rows_of (joined (content_in b s) (content_in c t)))
         whole =

@@ -5,7 +5,7 @@ use native.Mathlib.Numerals.{add-one}
 use native.Mathlib.Omega.{arith}
 use mathlib.Core.Path.{◌≡◌, refl, sym, ◌∙◌, ap, ap₂, subst}
 use mathlib.Core.Bool.{Bool}
-use mathlib.Core.List.{List, ◌++◌, map, map-append, append_assoc}
+use mathlib.Core.List.{List, ◌++◌, map, map-append, append_assoc, map-map}
 use lib.Dec.{eqb→eq}
 use lib.ListN.{length, get_or, length-append}
 use Rattle.logic.specs.Tests.{upto, pick}
@@ -19,7 +19,6 @@ use Rattle.writing.specs.Columns.{word_in, with_words, column}
 use Rattle.writing.proofs.Appending.{words_then, column_length}
 use Rattle.joining.specs.Joining.{over, pairs_below, pairs_under}
 use Rattle.joining.proofs.Lists.{map_below}
-use Rattle.files.proofs.Lists.{map_map}
 use Rattle.joining.proofs.Pairing.{pair, own_strong, own_row}
 use Rattle.joining.proofs.Rows.{house_row}
 use Rattle.join.specs.Heads.{Next, Chain, with_head, ByHeads}
@@ -33,8 +32,8 @@ words_after out at xs ys {k = k} {m} (e, f) (g, h) = (sum, words_then out at xs 
     sum : m ≡ at + 2 * length (xs ++ ys)
     sum = omega (arith, e, g, length-append xs ys)
 
-pub column_words : (side : Side) (row : ℕ → Row) (n : ℕ) (a : List ℕ) (k : ℕ) {b : List ℕ} → b ≡ with_words a k (column side row n) → Words a k (column side row n) b (k + 2 * n)
-column_words side row n a k e = (ap (λ m. k + 2 * m) (sym (column_length side row n)), e)
+pub column_words : (side : Side) (row : ℕ → Row) (n : ℕ) (a : List ℕ) (k : ℕ) {b : List ℕ} {m : ℕ} → m ≡ n → b ≡ with_words a k (column side row n) → Words a k (column side row n) b (k + 2 * m)
+column_words side row n a k f e = (ap (λ m. k + 2 * m) (f ∙ sym (column_length side row n)), e)
 
 -- the arrays' chain of the rules with one head
 chain : (c : List ℕ) (t : Sizes) (q : ℕ) (first next : List ℕ) → q < 1024 → ByHeads (theory_in c t) first next → Chain (with_head (theory_in c t) q) t.rules (get_or first q 0) next
@@ -58,7 +57,7 @@ module _ (side : Side) (b : List ℕ) (s : Sizes) (l : Legal b s) where
       ap₂ (λ y z. column side (λ i. pair_row (later_pair 0 (pair_at b s (y + i)))) (z - y)) e f
       ∙ map_below _ (λ i. word (weak i)) count
       (λ i k. ap₂ (λ t w. word_in side (record { left = t; right = w })) (zero-add _ ∙ own_strong b s l x i k) (zero-add _))
-      ∙ sym (map_map word weak (upto count)) ∙ ap (map word) (own_row b s l x h)
+      ∙ sym (map-map word weak (upto count)) ∙ ap (map word) (own_row b s l x h)
     where
       word : ℕ → ℕ
       word y = word_in side (record { left = x; right = y })
@@ -82,8 +81,8 @@ module _ (side : Side) (b : List ℕ) (s : Sizes) (l : Legal b s) where
     row_words =
         ap (λ z. pair_words side (pairs_below z n R)) (add-one x) ∙ map-append (λ p. word_in side (pair_row p)) (pairs_below x n R) (map (pair x) (pick (upto n) (R x)))
         ∙ ap (pair_words side (pairs_below x n R) ++◌)
-        (map_map (λ p. word_in side (pair_row p)) (pair x) (pick (upto n) (R x)) ∙ ap (map word) (house_row b s l c t m x h) ∙ map-append word (pick (upto s.rules) (superior (theory_in b s) x)) (map (λ j. s.rules + j) attackers)
-        ∙ ap (map word (pick (upto s.rules) (superior (theory_in b s) x)) ++◌) (map_map word (λ j. s.rules + j) attackers))
+        (map-map (λ p. word_in side (pair_row p)) (pair x) (pick (upto n) (R x)) ∙ ap (map word) (house_row b s l c t m x h) ∙ map-append word (pick (upto s.rules) (superior (theory_in b s) x)) (map (λ j. s.rules + j) attackers)
+        ∙ ap (map word (pick (upto s.rules) (superior (theory_in b s) x)) ++◌) (map-map word (λ j. s.rules + j) attackers))
         ∙ sym (append_assoc (pair_words side (pairs_below x n R)) (map word (pick (upto s.rules) (superior (theory_in b s) x))) (map (λ j. word (s.rules + j)) attackers))
       where
         n : ℕ

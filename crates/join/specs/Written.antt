@@ -1,16 +1,23 @@
 -- What the functions that write pairs leave in the output, and the place after it that they answer with.
-use Rattle.std.specs.Prelude.{ℕ, ◌+◌, ◌*◌, ◌≡◌, Bool, List, ◌++◌, map, length}
+use Rattle.std.specs.Prelude.{ℕ, ◌+◌, ◌*◌, ◌≡◌, Bool, true, false, List, ◌++◌, map, length, Result, Ok, Err}
 use Rattle.logic.specs.Tests.{upto, pick}
 use Rattle.table.specs.declared.format.Sizes.{Sizes}
 use Rattle.table.specs.declared.format.Pair.{Pair}
+use Rattle.table.specs.declared.judge.Refusal.{Refusal}
+use Rattle.table.specs.declared.judge.Refusal.TheVariants.{TooLarge}
 use Rattle.table.specs.Format.{rule_at, entry_at, theory_in}
-use Rattle.table.specs.Refusals.{Legal}
-use Rattle.files.specs.Contents.{Content, later_entry, rule_row, entry_row, pair_row}
+use Rattle.table.specs.Refusals.{oversize, Legal}
+use Rattle.files.specs.Contents.{Content, content_in, sizes_for, later_entry, rule_row, entry_row, pair_row}
 use Rattle.writing.specs.declared.columns.Side.{Side}
 use Rattle.writing.specs.Columns.{word_in, with_words, column}
-use Rattle.joining.specs.Joining.{over, pairs_below}
+use Rattle.joining.specs.Joining.{over, pairs_below, joined}
+use Rattle.join.specs.declared.facts.Both.{Both}
 use Rattle.join.specs.declared.totals.Totals.{Totals}
 use Rattle.join.specs.Heads.{Chain, ByHeads}
+
+-- what both tables say, joined
+abbrev pub joined_said : Both → Content
+joined_said t = joined (content_in t.house.layout.now t.house.sizes) (content_in t.tour.layout.now t.tour.sizes)
 
 -- words at a place, and the place after them
 abbrev pub Words : List ℕ → ℕ → List ℕ → List ℕ → ℕ → Type 0
@@ -42,3 +49,8 @@ HousePairs side x house s n first next out at out' after =
 -- the counts of a content's facts, rules, entries and pairs
 abbrev pub Counts : Content → Totals → Type 0
 Counts c n = (n.facts ≡ length c.facts) × (n.rules ≡ length c.rules) × (n.entries ≡ length c.entries) × (n.pairs ≡ length c.pairs)
+
+-- the sizes of a content, if none is above its limit; otherwise 2
+abbrev pub JoinedSizes : Content → Result Sizes Refusal → Type 0
+JoinedSizes c (Ok s) = (s ≡ sizes_for c) × (oversize s ≡ false)
+JoinedSizes c (Err why) = (why ≡ TooLarge) × (oversize (sizes_for c) ≡ true)

@@ -1,65 +1,41 @@
 // The two arrays of the joined table.
 ghost use Rattle.std.specs.Prelude.{◌≤◌, ◌≡◌, map, length};
-ghost use Rattle.logic.specs.Theory.{is_fact};
-ghost use Rattle.table.specs.Format.{theory_in};
-ghost use Rattle.table.specs.Refusals.{Legal};
-ghost use Rattle.standing.specs.Marks.{MarkedBy};
-ghost use Rattle.files.specs.Contents.{content_in, rows_of};
+ghost use Rattle.files.specs.Contents.{rows_of};
 ghost use Rattle.writing.specs.Columns.{word_in, with_words};
-ghost use Rattle.joining.specs.Joining.{joined};
-ghost use Rattle.join.specs.Written.{RulesOfBoth};
+ghost use Rattle.join.specs.Written.{joined_said, RulesOfBoth};
 
-use crate::facts::write_facts;
+use crate::facts::{Both, write_facts};
 use crate::heads::by_head;
 use crate::pairs::write_house_pairs;
-use table::format::Sizes;
+use table::accepted::Table;
 use writing::columns::{Side, write_entries, write_pairs, write_rules};
 
 // The rules and the entries of both tables; and the place after them.
-fn write_rules_of_both(
-    out: &mut [u8],
-    at: usize,
-    side: Side,
-    house: &[u8],
-    s: Sizes,
-    tour: &[u8],
-    t: Sizes,
-) -> usize
-    requires { (at ≤ 50000) × Legal house.now s × Legal tour.now t }
-    ensures { RulesOfBoth side house.now s tour.now t out.old at out.new result }
+fn write_rules_of_both(out: &mut [u8], at: usize, side: Side, house: Table, tour: Table) -> usize
+    requires { at ≤ 50000 }
+    ensures { RulesOfBoth side house.entry.layout.now house.entry.sizes tour.entry.layout.now tour.entry.sizes out.old at out.new result }
 {
-    write_rules(out, at, side, house, s);
-    let rules = at + 2 * s.rules as usize;
-    write_rules(out, rules, side, tour, t);
-    let entries = rules + 2 * t.rules as usize;
-    write_entries(out, entries, side, house, s, 0);
-    let more = entries + 2 * s.entries as usize;
-    write_entries(out, more, side, tour, t, s.rules);
-    more + 2 * t.entries as usize
+    write_rules(out, at, side, house);
+    let rules = at + 2 * usize::from(house.sizes.rules);
+    write_rules(out, rules, side, tour);
+    let entries = rules + 2 * usize::from(tour.sizes.rules);
+    write_entries(out, entries, side, house, 0);
+    let more = entries + 2 * usize::from(house.sizes.entries);
+    write_entries(out, more, side, tour, house.sizes.rules);
+    more + 2 * usize::from(tour.sizes.entries)
 }
 
-// One array, by the facts of both tables, of which there are n in all.
-pub fn write_side(
-    out: &mut [u8],
-    at: usize,
-    side: Side,
-    house: &[u8],
-    s: Sizes,
-    tour: &[u8],
-    t: Sizes,
-    facts: &[u8],
-    others: &[u8],
-    n: u16,
-)
-    requires at_bound { (at ≤ 40000) × Legal house.now s × Legal tour.now t × (n ≡ length (joined (content_in house.now s) (content_in tour.now t)).facts) }
-    requires marked_by { MarkedBy (is_fact (theory_in house.now s)) 1024 facts.now × MarkedBy (is_fact (theory_in tour.now t)) 1024 others.now }
-    ensures { out.new ≡ with_words out.old at (map (word_in side) (rows_of (joined (content_in house.now s) (content_in tour.now t)))) }
+// One array, of which the first n rows are the facts.
+pub fn write_side(out: &mut [u8], at: usize, side: Side, both: Both, n: u16)
+    requires { (at ≤ 40000) × (n ≡ length (joined_said both).facts) }
+    ensures { out.new ≡ with_words out.old at (map (word_in side) (rows_of (joined_said both.entry))) }
 {
-    let rules = by_head(tour, t);
-    let first = rules.first;
-    let next = rules.next;
-    write_facts(out, at, side, facts, others, 2 * s.atoms as usize);
-    let pairs = write_rules_of_both(out, at + 2 * n as usize, side, house, s, tour, t);
-    let last = write_house_pairs(out, pairs, side, house, s, &first, &next, t.rules);
-    write_pairs(out, last, side, tour, t, 0, t.pairs as usize, s.rules);
+    let house = both.house;
+    let tour = both.tour;
+    let rules = by_head(tour);
+    write_facts(out, at, side, both);
+    let pairs = write_rules_of_both(out, at + 2 * usize::from(n), side, house, tour);
+    let last = write_house_pairs(out, pairs, side, house, &rules);
+    let end = usize::from(tour.sizes.pairs);
+    write_pairs(out, last, side, tour, 0, end, house.sizes.rules);
 }

@@ -1,62 +1,69 @@
 // The facts of both tables, as marks.
-ghost use Rattle.std.specs.Prelude.{◌≤◌, ◌≡◌, map};
+ghost use Rattle.std.specs.Prelude.{◌*◌, ◌≤◌, ◌≡◌, map};
 ghost use Rattle.logic.specs.Tests.{◌or◌, count_below, upto, pick};
 ghost use Rattle.logic.specs.Theory.{is_fact};
-ghost use Rattle.table.specs.Format.{theory_in};
+ghost use Rattle.table.specs.Tables.{theory_said};
 ghost use Rattle.standing.specs.Marks.{marked, MarkedBy};
 ghost use Rattle.files.specs.Contents.{fact_row};
 ghost use Rattle.writing.specs.Columns.{word_in, with_words};
 
 use standing::marks::{is_marked, mark};
-use table::format::{Sizes, read_fact};
+use table::accepted::Table;
 use values::{add_if, either};
 use writing::columns::{Side, put_if, word_in};
 
 // The facts of a table.
-pub fn facts_of(layout: &[u8], s: Sizes) -> [u8; 1024]
-    ensures { MarkedBy (is_fact (theory_in layout.now s)) 1024 result }
+pub fn facts_of(table: Table) -> [u8; 1024]
+    ensures { MarkedBy (is_fact (theory_said table.entry)) 1024 result }
 {
-    let end = s.facts as usize;
     let mut marks = [0u8; 1024];
-    let mut i: usize = 0;
-    while i < end {
-        let q = read_fact(layout, s, i);
-        mark(&mut marks, q.0, true);
-        i += 1;
+    for i in 0..usize::from(table.sizes.facts) {
+        mark(&mut marks, table.fact(i).0, true);
     }
     marks
 }
 
-fn in_either(house: &[u8], tour: &[u8], q: usize) -> bool
-    ensures { result ≡ (marked house.now q or marked tour.now q) }
-{
-    either(is_marked(house, q), is_marked(tour, q))
+// Both tables, with the facts of each as marks.
+#[derive(Clone, Copy)]
+pub struct Both<'a> {
+    pub house: Table<'a>,
+    pub tour: Table<'a>,
+    pub house_facts: &'a [u8],
+    pub tour_facts: &'a [u8],
+    pub ghost house_marked: { MarkedBy (is_fact (theory_said house)) 1024 house_facts.now },
+    pub ghost tour_marked: { MarkedBy (is_fact (theory_said tour)) 1024 tour_facts.now },
 }
 
-// How many literals below n are facts of either.
-pub fn count_facts(house: &[u8], tour: &[u8], n: usize) -> usize
-    requires { n ≤ 1024 }
-    ensures { result ≡ count_below n (λ q. marked house.now q or marked tour.now q) }
+// Whether a literal is a fact of either.
+fn in_either(both: Both, q: u16) -> bool
+    ensures { result ≡ (marked both.entry.house_facts.now q or marked both.entry.tour_facts.now q) }
+{
+    let place = usize::from(q);
+    either(
+        is_marked(both.house_facts, place),
+        is_marked(both.tour_facts, place),
+    )
+}
+
+// How many literals are facts of either.
+pub fn count_facts(both: Both) -> usize
+    ensures { result ≡ count_below (2 * both.entry.house.sizes.atoms) (λ q. marked both.entry.house_facts.now q or marked both.entry.tour_facts.now q) }
 {
     let mut count: usize = 0;
-    let mut q: usize = 0;
-    while q < n {
-        count = add_if(count, in_either(house, tour, q));
-        q += 1;
+    for q in 0..2 * both.house.sizes.atoms {
+        count = add_if(count, in_either(both, q));
     }
     count
 }
 
-// The literals below n that are facts of either.
-pub fn write_facts(out: &mut [u8], at: usize, side: Side, house: &[u8], tour: &[u8], n: usize)
-    requires { (at ≤ 65536) × (n ≤ 1024) }
-    ensures { out.new ≡ with_words out.old at (map (λ z. word_in side (fact_row z)) (pick (upto n) (λ q. marked house.now q or marked tour.now q))) }
+// The literals that are facts of either.
+pub fn write_facts(out: &mut [u8], at: usize, side: Side, both: Both)
+    requires { at ≤ 65536 }
+    ensures { out.new ≡ with_words out.old at (map (λ z. word_in side (fact_row z)) (pick (upto (2 * both.entry.house.sizes.atoms)) (λ q. marked both.entry.house_facts.now q or marked both.entry.tour_facts.now q))) }
 {
     let mut place = at;
-    let mut q: usize = 0;
-    while q < n {
-        let word = word_in(side, 0, q as u16);
-        place = put_if(out, place, word, in_either(house, tour, q));
-        q += 1;
+    for q in 0..2 * both.house.sizes.atoms {
+        let word = word_in(side, 0, q);
+        place = put_if(out, place, word, in_either(both, q));
     }
 }

@@ -1,30 +1,25 @@
 // The pairs of the joined table: for each rule of the house its own pairs, then the added ones; then the tour's.
-ghost use Rattle.std.specs.Prelude.{ℕ, ◌+◌, ◌*◌, ◌≤◌, ◌<◌, ◌≡◌, length, get_or};
-ghost use Rattle.table.specs.Format.{theory_in};
-ghost use Rattle.table.specs.Refusals.{Legal};
+ghost use Rattle.std.specs.Prelude.{◌+◌, ◌*◌, ◌≤◌, ◌≡◌};
+ghost use Rattle.table.specs.Tables.{theory_said};
 ghost use Rattle.joining.specs.Joining.{pairs_under};
 ghost use Rattle.join.specs.Written.{AddedPairs, HousePairs};
 
-use crate::heads::against;
-use table::format::{Sizes, read_pair};
-use values::wide;
+use crate::heads::{ByHead, against};
+use table::accepted::Table;
 use writing::columns::{Side, put_word, word_in, write_pairs};
 
 // Where the pairs of a rule end that begin at `from`.
-fn own_end(layout: &[u8], s: Sizes, rule: usize, from: usize) -> usize
-    requires { Legal layout.now s × (from ≡ pairs_under (theory_in layout.now s) rule) }
-    ensures { result ≡ pairs_under (theory_in layout.now s) (rule + 1) }
+fn own_end(table: Table, rule: usize, from: usize) -> usize
+    requires { from ≡ pairs_under (theory_said table) rule }
+    ensures { result ≡ pairs_under (theory_said table.entry) (rule + 1) }
 {
-    let end = s.pairs as usize;
-    let mut i = from;
-    while i < end {
-        let pair = read_pair(layout, s, i);
-        if wide(pair.stronger) != rule {
+    let end = usize::from(table.sizes.pairs);
+    for i in from..end {
+        if usize::from(table.pair(i).stronger) != rule {
             return i;
         }
-        i += 1;
     }
-    i
+    end
 }
 
 // Pairs of one rule over those of a chain, which are numbered from `later` on; and the place after them.
@@ -35,49 +30,43 @@ fn write_added(
     rule: u16,
     later: u16,
     start: u16,
-    next: &[u16],
-    n: u16,
+    rules: &ByHead,
 ) -> usize
-    requires { (at ≤ 3000000) × (later ≤ 1024) × (n ≤ 1024) × (length next.now ≡ 1024) × ((j : ℕ) → j < n → j < get_or next.now j 0) }
-    ensures { (result ≤ at + 2 * n) × AddedPairs side rule later n start next.now out.old at out.new result }
+    requires { (at ≤ 3000000) × (later ≤ 1024) }
+    ensures { (result ≤ at + 2 * rules.now.n) × AddedPairs side rule later rules.now.n start rules.now.next out.old at out.new result }
 {
     let mut place = at;
     let mut j = start;
-    while j < n {
+    while j < rules.n {
         put_word(out, place, word_in(side, rule, later + j));
         place += 2;
-        j = next[wide(j)];
+        j = rules.next[usize::from(j)];
     }
     place
 }
 
-// The pairs whose stronger rule is the house's; and the place after them. `first` and `next` have the tour's n rules by their heads.
+// The pairs whose stronger rule is the house's; and the place after them. `rules` has the tour's rules.
 pub fn write_house_pairs(
     out: &mut [u8],
     at: usize,
     side: Side,
-    house: &[u8],
-    s: Sizes,
-    first: &[u16],
-    next: &[u16],
-    n: u16,
+    house: Table,
+    rules: &ByHead,
 ) -> usize
-    requires { (at ≤ 65536) × Legal house.now s × (n ≤ 1024) × (length first.now ≡ 1024) × (length next.now ≡ 1024) × ((j : ℕ) → j < n → j < get_or next.now j 0) }
-    ensures { (result ≤ at + 2101248) × HousePairs side s.rules house.now s n first.now next.now out.old at out.new result }
+    requires { at ≤ 65536 }
+    ensures { (result ≤ at + 2101248) × HousePairs side house.entry.sizes.rules house.entry.layout.now house.entry.sizes rules.now.n rules.now.first rules.now.next out.old at out.new result }
 {
-    let end = s.rules;
+    let later = house.sizes.rules;
     let mut place = at;
     let mut from: usize = 0;
-    let mut x: u16 = 0;
-    while x < end {
-        let rule = wide(x);
-        let to = own_end(house, s, rule, from);
-        write_pairs(out, place, side, house, s, from, to, 0);
-        let start = first[against(house, s, rule)];
+    for x in 0..later {
+        let rule = usize::from(x);
+        let to = own_end(house, rule, from);
+        write_pairs(out, place, side, house, from, to, 0);
+        let start = rules.first[against(house, rule)];
         let after = place + 2 * (to - from);
-        place = write_added(out, after, side, x, end, start, next, n);
+        place = write_added(out, after, side, x, later, start, rules);
         from = to;
-        x += 1;
     }
     place
 }

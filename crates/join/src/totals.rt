@@ -1,18 +1,13 @@
 // The sizes of the joined table, counted so that none wraps: 512 rules against 512 others add 262,144 pairs.
 ghost use Rattle.std.specs.Prelude.{◌≤◌, ◌≡◌, ltb};
 ghost use Rattle.logic.specs.Tests.{◌or◌};
-ghost use Rattle.logic.specs.Theory.{is_fact};
-ghost use Rattle.table.specs.Format.{theory_in};
-ghost use Rattle.table.specs.Refusals.{Legal};
-ghost use Rattle.standing.specs.Marks.{MarkedBy};
-ghost use Rattle.files.specs.Contents.{content_in};
-ghost use Rattle.joining.specs.Joining.{joined};
-ghost use Rattle.join.specs.Written.{Counts};
+ghost use Rattle.join.specs.Written.{joined_said, Counts, JoinedSizes};
 
-use crate::facts::count_facts;
+use crate::facts::{Both, count_facts};
 use crate::heads::{added_pairs, head_counts};
 use table::format::Sizes;
-use values::{either, wide};
+use table::judge::Refusal;
+use values::either;
 
 #[derive(Clone, Copy)]
 pub struct Totals {
@@ -22,41 +17,34 @@ pub struct Totals {
     pub pairs: usize,
 }
 
-// By both tables, and the facts of each.
-pub fn totals_of(
-    house: &[u8],
-    s: Sizes,
-    tour: &[u8],
-    t: Sizes,
-    facts: &[u8],
-    others: &[u8],
-) -> Totals
-    requires { Legal house.now s × Legal tour.now t × MarkedBy (is_fact (theory_in house.now s)) 1024 facts.now × MarkedBy (is_fact (theory_in tour.now t)) 1024 others.now }
-    ensures { Counts (joined (content_in house.now s) (content_in tour.now t)) result }
+// By both tables.
+fn totals_of(both: Both) -> Totals
+    ensures { Counts (joined_said both.entry) result }
 {
-    let counts = head_counts(tour, t);
-    let added = added_pairs(house, s, &counts);
-    let facts = count_facts(facts, others, 2 * wide(s.atoms));
+    let counts = head_counts(both.tour);
+    let added = added_pairs(both.house, &counts);
+    let s = both.house.sizes;
+    let t = both.tour.sizes;
     Totals {
-        facts,
-        rules: wide(s.rules) + wide(t.rules),
-        entries: wide(s.entries) + wide(t.entries),
-        pairs: wide(s.pairs) + wide(t.pairs) + added,
+        facts: count_facts(both),
+        rules: usize::from(s.rules) + usize::from(t.rules),
+        entries: usize::from(s.entries) + usize::from(t.entries),
+        pairs: usize::from(s.pairs) + usize::from(t.pairs) + added,
     }
 }
 
 // Whether one is above its limit. There are at most as many facts as literals.
-pub fn too_large(n: Totals) -> bool
+fn too_large(n: Totals) -> bool
     ensures { result ≡ (ltb 1024 n.rules or (ltb 4096 n.entries or ltb 2048 n.pairs)) }
 {
-    let rules = (Sizes::MAX_RULES as usize) < n.rules;
-    let entries = (Sizes::MAX_ENTRIES as usize) < n.entries;
-    let pairs = (Sizes::MAX_PAIRS as usize) < n.pairs;
+    let rules = usize::from(Sizes::MAX_RULES) < n.rules;
+    let entries = usize::from(Sizes::MAX_ENTRIES) < n.entries;
+    let pairs = usize::from(Sizes::MAX_PAIRS) < n.pairs;
     either(rules, either(entries, pairs))
 }
 
 // The five sizes, where none is above its limit.
-pub fn sizes_of(atoms: u16, n: Totals) -> Sizes
+fn sizes_of(atoms: u16, n: Totals) -> Sizes
     requires { (n.facts ≤ 1024) × (n.rules ≤ 1024) × (n.entries ≤ 4096) × (n.pairs ≤ 2048) }
     ensures { (result.atoms ≡ atoms) × (result.facts ≡ n.facts) × (result.rules ≡ n.rules) × (result.entries ≡ n.entries) × (result.pairs ≡ n.pairs) }
 {
@@ -67,4 +55,15 @@ pub fn sizes_of(atoms: u16, n: Totals) -> Sizes
         entries: n.entries as u16,
         pairs: n.pairs as u16,
     }
+}
+
+// The sizes of the joined table; or that one is above its limit.
+pub fn joined_sizes(both: Both) -> Result<Sizes, Refusal>
+    ensures { JoinedSizes (joined_said both.entry) result }
+{
+    let n = totals_of(both);
+    if too_large(n) {
+        return Err(Refusal::TooLarge);
+    }
+    Ok(sizes_of(both.house.sizes.atoms, n))
 }

@@ -24,7 +24,7 @@ use Rattle.logic.proofs.Derivations.{derivation_snoc}
 use Rattle.logic.proofs.Plain.{attacker_head, plain_demands}
 use Rattle.table.specs.Format.{kind_meant}
 use Rattle.files.specs.Contents.{Content, rule_of, entry_of, later_entry, theory_from}
-use Rattle.files.proofs.Lists.{at_map}
+use Rattle.std.proofs.lemmas.List.{get_or-map}
 use Rattle.files.proofs.Theories.{body_place}
 use Rattle.joining.specs.Joining.{over, joined}
 use Rattle.joining.specs.Prevailing.{Prevails}
@@ -72,7 +72,7 @@ module _ (h t : Content) where
       ⊎_elim (λ k. (body_place h r q).1 (i, k.0, ap (λ z. z.rule) (sym k.1) ∙ w, ap (λ z. z.literal.0) (sym k.1) ∙ e))
       (λ k. let (j, x, _, f) = k in
       let at : (entry_of (joined h t) i).rule ≡ length h.rules + (entry_of t j).rule =
-      ap (λ z. z.rule) (f ∙ at_map (later_entry (length h.rules)) t.entries j _ _ (subst (λ z. j < z) (length-map t.entries _) x)) in
+      ap (λ z. z.rule) (f ∙ get_or-map (later_entry (length h.rules)) t.entries j _ _ (subst (λ z. j < z) (length-map t.entries _) x)) in
       absurd (lt_irrefl r (omega (arith, at, w))))
       (places h.entries (map (later_entry (length h.rules)) t.entries) _ i v)
 

@@ -6,7 +6,7 @@ use mathlib.Core.List.{List}
 use Rattle.logic.specs.Theory.{superior}
 use Rattle.logic.specs.Cycle.{Cycle}
 use Rattle.table.specs.declared.format.Sizes.{Sizes}
-use Rattle.table.specs.declared.judge.Judgement.TheVariants.{Accepted}
+use Rattle.std.specs.Prelude.{Ok}
 use Rattle.table.specs.declared.edition.Edition.{Edition}
 use Rattle.table.specs.Format.{theory_of}
 use Rattle.table.specs.Refusals.{oversize, judgement_of}
@@ -21,7 +21,7 @@ use Rattle.joining.specs.Prevailing.{Prevails, Join}
 use Rattle.joining.proofs.Proper.{joined_proper}
 use Rattle.joining.proofs.House.{house_prevails}
 
-pub join_of : (e : Edition) (house tour : List ℕ) (s t : Sizes) → judgement_of e house ≡ Accepted s → judgement_of e tour ≡ Accepted t → s.atoms ≡ t.atoms
+pub join_of : (e : Edition) (house tour : List ℕ) (s t : Sizes) → judgement_of e house ≡ Ok s → judgement_of e tour ≡ Ok t → s.atoms ≡ t.atoms
     → oversize (sizes_for (joined (content_of e house) (content_of e tour))) ≡ false → Join e house tour (joined_file e house tour)
 join_of e house tour s t a b c l =
     record {

@@ -12,7 +12,7 @@ use lib.Seq.{get_or-append-add}
 use Rattle.logic.specs.Tests.{upto, pick, member}
 use Rattle.logic.proofs.Tests.{cond_false, at_most}
 use Rattle.logic.proofs.Lists.{member_here, member_there, member_upto, pick_append}
-use Rattle.files.proofs.Lists.{at_map}
+use Rattle.std.proofs.lemmas.List.{get_or-map}
 
 -- two maps that agree on the numbers below n
 pub map_below : {A : Type 0} (f g : ℕ → A) (n : ℕ) → ((i : ℕ) → i < n → f i ≡ g i) → map f (upto n) ≡ map g (upto n)
@@ -67,4 +67,4 @@ each_append P l m d f g i h =
 
 pub each_map : {A B : Type 0} (P : B → Type 0) (f : A → B) (l : List A) (d : A) (e : B) → ((i : ℕ) → i < length l → P (f (get_or l i d)))
     → (i : ℕ) → i < length (map f l) → P (get_or (map f l) i e)
-each_map P f l d e g i h = let k : i < length l = omega (arith, h, length-map l f) in subst P (sym (at_map f l i d e k)) (g i k)
+each_map P f l d e g i h = let k : i < length l = omega (arith, h, length-map l f) in subst P (sym (get_or-map f l i d e k)) (g i k)

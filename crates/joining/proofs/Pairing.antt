@@ -6,7 +6,7 @@ use native.Mathlib.Omega.{arith}
 use mathlib.Core.Path.{◌≡◌, refl, sym, ◌∙◌, ap, ap₂, subst}
 use mathlib.Core.Logic.{◌↔◌, ◌⊎◌, inl, inr, ⊎_elim}
 use mathlib.Core.Bool.{Bool}
-use mathlib.Core.List.{List, [], ◌∷◌, ◌++◌, map, map-append}
+use mathlib.Core.List.{List, [], ◌∷◌, ◌++◌, map, map-append, map-map}
 use lib.Dec.{T, ltb, eqb→eq, eqb_refl, ltb→lt, lt→ltb}
 use lib.ListN.{length, get_or, length-append, length-map, get_or-append}
 use lib.Seq.{get_or-append-add}
@@ -24,7 +24,7 @@ use Rattle.table.specs.Refusals.{Legal}
 use Rattle.table.proofs.Legal.{ranged, stronger_below, weaker_below}
 use Rattle.table.proofs.Sorted.{Before, before_left, before_right, pairs_rise}
 use Rattle.files.specs.Contents.{Content, Row, fact_row, pair_row, theory_from}
-use Rattle.files.proofs.Lists.{map_map, at_map}
+use Rattle.std.proofs.lemmas.List.{get_or-map}
 use Rattle.files.proofs.Proper.{row_at, RowBefore, Rising}
 use Rattle.files.proofs.Theories as theories
 use Rattle.files.proofs.Reading.{row_of}
@@ -121,7 +121,7 @@ abbrev pub rows_over : ℕ → List ℕ → List Row
 rows_over x k = map (λ s. record { left = x; right = s }) k
 
 row_over : (x : ℕ) (k : List ℕ) (i : ℕ) → i < length (rows_over x k) → row_at (rows_over x k) i ≡ record { left = x; right = get_or k i 0 }
-row_over x k i h = at_map _ k i 0 _ (subst (λ z. i < z) (length-map k _) h)
+row_over x k i h = get_or-map _ k i 0 _ (subst (λ z. i < z) (length-map k _) h)
 
 -- they rise, and so do the rows of a relation
 pub over_rising : (x : ℕ) (k : List ℕ) → T (rising_from 0 k) → Rising (rows_over x k)
@@ -132,7 +132,7 @@ pub pairs_rising : (m n : ℕ) (R : ℕ → ℕ → Bool) → Rising (map pair_r
 unfolding pairs_below Before
 pairs_rising zero n R = λ i j h k. absurd (not-suc-le-zero k)
 pairs_rising (suc m) n R =
-    subst Rising (sym (map-append pair_row (pairs_below m n R) (map (pair m) row) ∙ ap (map pair_row (pairs_below m n R) ++◌) (map_map pair_row (pair m) row)))
+    subst Rising (sym (map-append pair_row (pairs_below m n R) (map (pair m) row) ∙ ap (map pair_row (pairs_below m n R) ++◌) (map-map pair_row (pair m) row)))
     (rising_append (map pair_row (pairs_below m n R)) (rows_over m row) (pairs_rising m n R) (over_rising m row (rising_pick 0 (upto n) (R m) (rising_upto n)))
     (λ i j h k. let u : i < length (pairs_below m n R) = omega (arith, h, length-map (pairs_below m n R) pair_row) in
     inl (coe 0 1 (z. (sym (row_of pair_row (pairs_below m n R) (pair 0 0) i refl) z).left < (sym (row_over m row j k) z).left) (pairs_range m n R i u).0)))
@@ -249,7 +249,7 @@ module _ (b : List ℕ) (s : Sizes) (l : Legal b s) where
   pairs_upto zero h = ap (λ n. map (pair_at b s) (upto n)) (under_none (theory_in b s))
   pairs_upto (suc x) h =
       ap (λ n. map (pair_at b s) (upto n)) whole ∙ ap (map (pair_at b s)) (upto_split (from x) (own x)) ∙ map-append (pair_at b s) (upto (from x)) _
-      ∙ ap₂ ◌++◌ (pairs_upto x (le_of_lt h)) (map_map (pair_at b s) (λ j. from x + j) (upto (own x)) ∙ row)
+      ∙ ap₂ ◌++◌ (pairs_upto x (le_of_lt h)) (map-map (pair_at b s) (λ j. from x + j) (upto (own x)) ∙ row)
     where
       whole : from (suc x) ≡ from x + own x
       whole = ap from (sym (add-one x)) ∙ omega (arith, under_grows (theory_in b s) x)
@@ -257,7 +257,7 @@ module _ (b : List ℕ) (s : Sizes) (l : Legal b s) where
       row : map (λ j. pair_at b s (from x + j)) (upto (own x)) ≡ map (pair x) (pick (upto s.rules) (superior (theory_in b s) x))
       row =
           map_below _ (λ j. pair x (pair_at b s (from x + j)).weaker) (own x) (λ j k. ap (λ z. pair z (pair_at b s (from x + j)).weaker) (own_strong x j k))
-          ∙ sym (map_map (pair x) (λ j. (pair_at b s (from x + j)).weaker) (upto (own x))) ∙ ap (map (pair x)) (own_row x h)
+          ∙ sym (map-map (pair x) (λ j. (pair_at b s (from x + j)).weaker) (upto (own x))) ∙ ap (map (pair x)) (own_row x h)
 
 -- The pairs of an accepted table are the pairs of its superiority.
 pub pairs_canonical : (b : List ℕ) (s : Sizes) → Legal b s → map (pair_at b s) (upto s.pairs) ≡ pairs_below s.rules s.rules (superior (theory_in b s))

@@ -5,7 +5,7 @@ use native.Mathlib.Omega.{arith}
 use mathlib.Core.Path.{◌≡◌, refl, sym, ◌∙◌, ap, subst}
 use mathlib.Core.Logic.{inl}
 use mathlib.Core.Bool.{false}
-use mathlib.Core.List.{List, ◌++◌, map, map-append}
+use mathlib.Core.List.{List, ◌++◌, map, map-append, map-map}
 use lib.Dec.{T, lt→ltb}
 use lib.ListN.{length, length-append, length-map}
 use Rattle.logic.specs.Tests.{upto}
@@ -18,7 +18,7 @@ use Rattle.table.specs.declared.edition.Edition.{Edition}
 use Rattle.table.specs.Refusals.{oversize, bad_left}
 use Rattle.table.proofs.Sorted.{Before}
 use Rattle.files.specs.Contents.{Content, rule_of, entry_of, later_entry, sizes_for, Row, fact_row, rule_row, entry_row, theory_from}
-use Rattle.files.proofs.Lists.{map_map, at_map}
+use Rattle.std.proofs.lemmas.List.{get_or-map}
 use Rattle.files.proofs.Proper.{row_at, RowBefore, Rising, Proper}
 use Rattle.files.proofs.Theories.{body_place, head_literal, entry_literal}
 use Rattle.files.proofs.Reading.{row_of}
@@ -39,10 +39,10 @@ later_rising n l r i j h k =
     coe 0 1 (z. RowBefore (sym (row i u) z) (sym (row j v) z)) (before_kept _ _ _ _ (λ m. omega arith) (ap (n +◌)) (λ m. m) (r i j h v))
   where
     row : (i : ℕ) → i < length l → row_at (map (later_row n) l) i ≡ later_row n (row_at l i)
-    row i h = at_map (later_row n) l i _ _ h
+    row i h = get_or-map (later_row n) l i _ _ h
 
 later_entries : (n : ℕ) (l : List Entry) → map entry_row (map (later_entry n) l) ≡ map (later_row n) (map entry_row l)
-later_entries n l = map_map entry_row (later_entry n) l ∙ sym (map_map (later_row n) entry_row l)
+later_entries n l = map-map entry_row (later_entry n) l ∙ sym (map-map (later_row n) entry_row l)
 
 module _ (e : Edition) (h t : Content) (p : Proper e h) (q : Proper e t) (a : h.atoms ≡ t.atoms) where
   tour_below : (q : ℕ) → q < 2 * t.atoms → q < 2 * h.atoms

@@ -5,7 +5,7 @@ use native.Mathlib.Omega.{arith}
 use mathlib.Core.Path.{◌≡◌, refl, sym, ◌∙◌, ap, ap₂, subst}
 use mathlib.Core.Logic.{◌⊎◌, inl, inr, ⊎_elim}
 use mathlib.Core.Bool.{Bool}
-use mathlib.Core.List.{List, ◌++◌, map, map-append, append-nil, append_assoc}
+use mathlib.Core.List.{List, ◌++◌, map, map-append, append-nil, append_assoc, map-map}
 use lib.Dec.{T, eqb, ltb→lt, lt→ltb, leb→le, le→leb, eqb→eq}
 use lib.ListN.{length, length-append, length-map}
 use Rattle.logic.specs.Tests.{count_below, total, upto, pick}
@@ -21,7 +21,6 @@ use Rattle.table.specs.Refusals.{Legal}
 use Rattle.table.proofs.Legal.{ranged, proper_theory}
 use Rattle.files.specs.Contents.{later_pair}
 use Rattle.files.proofs.Saying.{count_upto_map}
-use Rattle.files.proofs.Lists.{map_map}
 use Rattle.joining.specs.Joining.{added, later, over, pairs_below}
 use Rattle.joining.proofs.Lists.{pick_split, pick_none}
 use Rattle.joining.proofs.Pairing.{pair, pairs_canonical}
@@ -113,7 +112,7 @@ module _ (h k : Theory) where
         ∙ append_assoc (pairs_below h.rules (h.rules + n) (over h k)) (map (later_pair h.rules) (pairs_below r n (superior k))) _
         ∙ ap (pairs_below h.rules (h.rules + n) (over h k) ++◌)
         (ap (map (later_pair h.rules) (pairs_below r n (superior k)) ++◌)
-        (map_map (pair (h.rules + r)) (λ j. h.rules + j) row ∙ sym (map_map (later_pair h.rules) (pair r) row))
+        (map-map (pair (h.rules + r)) (λ j. h.rules + j) row ∙ sym (map-map (later_pair h.rules) (pair r) row))
         ∙ sym (map-append (later_pair h.rules) (pairs_below r n (superior k)) (map (pair r) row)))
       where
         row : List ℕ

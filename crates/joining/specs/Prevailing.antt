@@ -1,12 +1,11 @@
 -- Document 02, S-7: what is shown of the joined table.
-use Rattle.std.specs.Prelude.{ℕ, ◌<◌, ◌≡◌, List, T}
+use Rattle.std.specs.Prelude.{ℕ, ◌<◌, ◌≡◌, List, T, Ok}
 use Rattle.logic.specs.Theory.{Theory, can_support, kind_of, head_of, complement, attacker, superior}
 use Rattle.logic.specs.Cycle.{Cycle}
 use Rattle.logic.specs.Inference.{−Δ, +∂, all_have}
 use Rattle.logic.specs.Plain.{plain, plain_system}
 use Rattle.logic.specs.Worklist.{run}
 use Rattle.logic.specs.Laws.{logged}
-use Rattle.table.specs.declared.judge.Judgement.TheVariants.{Accepted}
 use Rattle.table.specs.declared.edition.Edition.{Edition}
 use Rattle.table.specs.Format.{theory_of}
 use Rattle.table.specs.Refusals.{judgement_of}
@@ -23,7 +22,7 @@ Prevails house d =
 
 -- The file of a join: it is accepted and says the joined content, it "is always free of circles", and the house's rules prevail.
 pub record Join (e : Edition) (house tour new : List ℕ) : Type 0 where
-  pub accepted : judgement_of e new ≡ Accepted (sizes_for (joined (content_of e house) (content_of e tour)))
+  pub accepted : judgement_of e new ≡ Ok (sizes_for (joined (content_of e house) (content_of e tour)))
   pub content : content_of e new ≡ joined (content_of e house) (content_of e tour)
   pub acyclic : Cycle (superior (theory_of e new)) → ⊥
   pub prevails : Prevails (theory_of e house) (theory_of e new)

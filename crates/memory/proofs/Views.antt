@@ -24,13 +24,13 @@ unfolding use_at
 use_in m k h = cond_true (ltb k uses_size) _ _ (lt→ltb k uses_size h)
 
 -- two memories that agree at a word agree in the view of it
-view_same : (m n : List ℕ) (f i : ℕ) → (f < field_count → i < field_size → get_or n (field_size * f + i) 0 ≡ get_or m (field_size * f + i) 0) → view n f i ≡ view m f i
+pub view_same : (m n : List ℕ) (f i : ℕ) → (f < field_count → i < field_size → get_or n (field_size * f + i) 0 ≡ get_or m (field_size * f + i) 0) → view n f i ≡ view m f i
 unfolding view
 view_same m n f i e =
     ⊎_elim (λ t. ap (λ x. cond (ltb f field_count and ltb i field_size) x 0) (e (ltb→lt f field_count (and_left _ _ t)) (ltb→lt i field_size (and_right _ _ t))))
     (λ t. cond_false (ltb f field_count and ltb i field_size) _ _ t ∙ sym (cond_false (ltb f field_count and ltb i field_size) _ _ t)) (test_cases (ltb f field_count and ltb i field_size))
 
-use_same : (m n : List ℕ) (k : ℕ) → (k < uses_size → get_or n (uses_base + k) 0 ≡ get_or m (uses_base + k) 0) → use_at n k ≡ use_at m k
+pub use_same : (m n : List ℕ) (k : ℕ) → (k < uses_size → get_or n (uses_base + k) 0 ≡ get_or m (uses_base + k) 0) → use_at n k ≡ use_at m k
 unfolding use_at
 use_same m n k e =
     ⊎_elim (λ t. ap (λ x. cond (ltb k uses_size) x 0) (e (ltb→lt k uses_size t))) (λ t. cond_false (ltb k uses_size) _ _ t ∙ sym (cond_false (ltb k uses_size) _ _ t))

@@ -1,4 +1,5 @@
 // The fields of the memory; specs/Fields.antt says what stands in each. Fields 0 to 3 are the marks of a literal, one for each tag.
+// They are numbers, as an enum would be no plainer: a tag is added to some (`HAS + t`), and a word's place is computed from its field's.
 
 // Of a rule, one for each tag t, at HAS + t: how many antecedents have it, a virtual one that always holds counted.
 pub const HAS: usize = 4;

@@ -2,8 +2,7 @@
 ghost use Rattle.std.specs.Prelude.{◌*◌, ◌≤◌, ◌<◌, ◌≡◌, length};
 ghost use Rattle.logic.specs.Theory.{complement};
 ghost use Rattle.logic.specs.Plain.{plain_system};
-ghost use Rattle.table.specs.Format.{theory_in};
-ghost use Rattle.table.specs.Refusals.{Legal};
+ghost use Rattle.table.specs.Tables.{theory_said};
 ghost use Rattle.memory.specs.Layout.{tag_count, field_size, memory_size};
 ghost use Rattle.memory.specs.Memory.{view, held_of, Ready};
 ghost use Rattle.memory.specs.Deciding.{processed, definitely_by, not_definitely_by, defeasibly_by, not_defeasibly_by};
@@ -13,7 +12,8 @@ use crate::fields::{
 };
 use crate::layout::TAGS;
 use crate::words::load;
-use table::format::{Literal, Sizes};
+use table::accepted::Table;
+use table::format::Literal;
 use values::{both, either};
 
 // Whether tag t of the literal at an index is processed.
@@ -46,7 +46,7 @@ fn other(q: u16) -> usize
     ensures { result ≡ complement q }
 {
     let n = Literal(q).complement();
-    n.0 as usize
+    usize::from(n.0)
 }
 
 // +∂
@@ -88,9 +88,9 @@ fn not_defeasibly(mem: &[u16], q: u16) -> bool
 }
 
 // Whether a conclusion follows: the remainder by four picks the inference rule.
-pub fn follows(table: &[u8], s: Sizes, mem: &[u16], x: u16) -> bool
-    requires { Legal table.now s × Ready (theory_in table.now s) mem.now × (x < tag_count * (2 * s.atoms)) }
-    ensures { result ≡ (plain_system (theory_in table.now s)).infers (held_of mem.now) x }
+pub fn follows(table: Table, mem: &[u16], x: u16) -> bool
+    requires { Ready (theory_said table) mem.now × (x < tag_count * (2 * table.sizes.atoms)) }
+    ensures { result ≡ (plain_system (theory_said table.entry)).infers (held_of mem.now) x }
 {
     let q = x / TAGS;
     let t = x % TAGS;

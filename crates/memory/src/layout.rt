@@ -1,4 +1,4 @@
-// How the words of the memory are laid out (specs/Layout.antt).
+// How the words of the memory are laid out (specs/Layout.antt). The sizes are cast by `as`, since a constant's value calls no function.
 use table::format::Sizes;
 
 // The tags of a literal.

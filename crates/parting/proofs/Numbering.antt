@@ -16,7 +16,8 @@ use Rattle.logic.proofs.Rising.{rising_upto, rising_pick}
 use Rattle.logic.proofs.Sums.{weigh_true, count_upto}
 use Rattle.logic.proofs.Pigeon.{count_le}
 use Rattle.files.specs.Contents.{Content, rule_of}
-use Rattle.files.proofs.Lists.{at_map, rising_places}
+use Rattle.files.proofs.Lists.{rising_places}
+use Rattle.std.proofs.lemmas.List.{get_or-map}
 use Rattle.parting.specs.Parting.{rule_in, number_in, part_of}
 
 -- a function that rises between two numbers tells them apart
@@ -76,14 +77,14 @@ module _ {A : Type 0} (g : ℕ → A) (n : ℕ) (p : ℕ → Bool) where
   pub kept_at : (d : A) (i : ℕ) → i < n → T (p i) → (count_below i p < length (map g (pick (upto n) p))) × (get_or (map g (pick (upto n) p)) (count_below i p) d ≡ g i)
   kept_at d i h t = (
     omega (arith, kept_count, count_rises p i n h t),
-    at_map g (pick (upto n) p) (count_below i p) 0 d (omega (arith, count_upto n p, count_rises p i n h t)) ∙ ap g (picked_at p n i 0 h t),
+    get_or-map g (pick (upto n) p) (count_below i p) 0 d (omega (arith, count_upto n p, count_rises p i n h t)) ∙ ap g (picked_at p n i 0 h t),
   )
 
   pub kept_place : (d : A) (j : ℕ) → j < length (map g (pick (upto n) p)) → (i : ℕ) × (i < n) × T (p i) × (count_below i p ≡ j) × (get_or (map g (pick (upto n) p)) j d ≡ g i)
   kept_place d j h =
       let k : j < length (pick (upto n) p) = omega (arith, h, length-map (pick (upto n) p) g) in
       let (i, a, t, e, f) = picked_place p n j k in
-      (i, a, t, e, at_map g (pick (upto n) p) j 0 d k ∙ ap g f)
+      (i, a, t, e, get_or-map g (pick (upto n) p) j 0 d k ∙ ap g f)
 
 -- the rules of a part by their new numbers
 module _ (c : Content) (a : ℕ) where

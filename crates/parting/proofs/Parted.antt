@@ -13,7 +13,7 @@ use Rattle.logic.proofs.Tests.{test_eq}
 use Rattle.logic.proofs.Carrying.{same_tags_lem}
 use Rattle.logic.proofs.Parts.{together_trans, together_sym, part_agrees, part_below}
 use Rattle.table.specs.declared.format.Sizes.{Sizes}
-use Rattle.table.specs.declared.judge.Judgement.TheVariants.{Accepted}
+use Rattle.std.specs.Prelude.{Ok}
 use Rattle.table.specs.declared.edition.Edition.{Edition}
 use Rattle.table.specs.Format.{theory_of}
 use Rattle.table.specs.Refusals.{judgement_of}
@@ -28,7 +28,7 @@ use Rattle.parting.proofs.Proper.{part_proper}
 use Rattle.parting.proofs.Corresponding.{part_corresponds}
 
 -- "A part's own table": it is accepted, says the part's content, and gives the part's atoms the same tags
-pub part_of_lem : (e : Edition) (whole : List ℕ) (s : Sizes) (a : ℕ) → judgement_of e whole ≡ Accepted s → a < s.atoms → Part e whole a (part_file e whole a)
+pub part_of_lem : (e : Edition) (whole : List ℕ) (s : Sizes) (a : ℕ) → judgement_of e whole ≡ Ok s → a < s.atoms → Part e whole a (part_file e whole a)
 part_of_lem e whole s a j h =
     record {
       accepted = file_accepted e (part_of c a) good;

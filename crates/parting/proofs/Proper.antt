@@ -4,7 +4,7 @@ use native.Mathlib.Omega.{arith}
 use borrow.Author.Tests.{le-ltb}
 use mathlib.Core.Path.{◌≡◌, refl, sym, ◌∙◌, ap, subst}
 use mathlib.Core.Bool.{Bool, false}
-use mathlib.Core.List.{map}
+use mathlib.Core.List.{map, map-map}
 use lib.Dec.{T, lt→ltb}
 use lib.ListN.{length}
 use Rattle.logic.specs.Tests.{◌or◌, upto, pick}
@@ -18,7 +18,6 @@ use Rattle.table.specs.declared.edition.Edition.{Edition}
 use Rattle.table.specs.Refusals.{oversize, bad_left}
 use Rattle.table.proofs.Legal.{limited}
 use Rattle.files.specs.Contents.{Content, fact_of, entry_of, pair_of, sizes_for, Row, fact_row, rule_row, entry_row, pair_row, theory_from}
-use Rattle.files.proofs.Lists.{map_map}
 use Rattle.files.proofs.Proper.{RowBefore, Rising, Proper}
 use Rattle.files.proofs.Theories.{body_place, superior_place, fact_literal, head_literal, entry_literal, pair_rules}
 use Rattle.files.proofs.Rows.{rows_rise, rows_at, before_kept}
@@ -42,7 +41,7 @@ smaller_fits s t o a f r e p =
 kept_rise : {A : Type 0} (f : A → Row) (g : ℕ → A) (n : ℕ) (p : ℕ → Bool) → ((i j : ℕ) → i < j → j < n → T (p i) → T (p j) → RowBefore (f (g i)) (f (g j)))
     → Rising (map f (map g (pick (upto n) p)))
 kept_rise f g n p r =
-    subst Rising (sym (map_map f g (pick (upto n) p)))
+    subst Rising (sym (map-map f g (pick (upto n) p)))
     (rows_rise _ (pick (upto n) p) (rising_pick 0 (upto n) p (rising_upto n))
     (λ i j h u v. let (_, t) = member_pick (upto n) p i u in let (m, s) = member_pick (upto n) p j v in r i j h (member_upto n j m) t s))
 

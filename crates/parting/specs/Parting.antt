@@ -1,12 +1,11 @@
 -- Document 02, S-8: "A part's own table .. made of one part's facts, rules, entries and the pairs inside it, with A unchanged".
-use Rattle.std.specs.Prelude.{ℕ, ◌≡◌, Bool, List, map, length}
+use Rattle.std.specs.Prelude.{ℕ, ◌≡◌, Bool, List, map, length, Ok}
 use Rattle.logic.specs.Tests.{◌and◌, count_below, upto, pick}
 use Rattle.logic.specs.Theory.{atom}
 use Rattle.logic.specs.Laws.{SameTags}
 use Rattle.logic.specs.Parts.{in_part}
 use Rattle.table.specs.declared.format.Entry.{Entry}
 use Rattle.table.specs.declared.format.Pair.{Pair}
-use Rattle.table.specs.declared.judge.Judgement.TheVariants.{Accepted}
 use Rattle.table.specs.declared.edition.Edition.{Edition}
 use Rattle.table.specs.Format.{theory_of}
 use Rattle.table.specs.Refusals.{judgement_of}
@@ -59,6 +58,6 @@ part_file e whole a = file_of e (part_of (content_of e whole) a)
 -- What is shown of it: it is accepted and says that content, and running it "gives that part's atoms the same tags as the whole, given budgets
 -- that finish both", in every reading.
 pub record Part (e : Edition) (whole : List ℕ) (a : ℕ) (new : List ℕ) : Type 0 where
-  pub accepted : judgement_of e new ≡ Accepted (sizes_for (part_of (content_of e whole) a))
+  pub accepted : judgement_of e new ≡ Ok (sizes_for (part_of (content_of e whole) a))
   pub content : content_of e new ≡ part_of (content_of e whole) a
   pub same_tags : SameTags (theory_of e whole) (theory_of e new) (λ q. in_part (theory_of e whole) a (atom q))

@@ -5,6 +5,7 @@ use native.Mathlib.Omega.{arith}
 use mathlib.Core.Path.{◌≡◌, refl, sym, ◌∙◌, ap, ap₂, subst}
 use mathlib.Core.Bool.{false, cond}
 use mathlib.Core.List.{List, [], ◌∷◌, ◌++◌, map, map-append}
+use Rattle.std.specs.Prelude.{Ok, Err}
 use borrow.Author.Tests.{lt-ltb, le-ltb}
 use lib.Dec.{T, leb, le→leb, leb→le}
 use lib.ListN.{length, get_or, take, drop, length-map}
@@ -12,32 +13,26 @@ use lib.Seq.{sets, take-suc}
 use Rattle.logic.specs.Tests.{upto}
 use Rattle.logic.specs.Theory.{proper}
 use Rattle.logic.specs.Parts.{smallest, parts_list}
-use Rattle.logic.proofs.Tests.{true_of, false_of, of_false}
+use Rattle.logic.proofs.Tests.{false_of, of_false}
 use Rattle.logic.proofs.Lists.{length_upto}
 use Rattle.logic.proofs.Parts.{parts_right}
 use Rattle.table.specs.declared.format.Sizes.{Sizes}
 use Rattle.table.specs.declared.judge.Refusal.{Refusal}
 use Rattle.table.specs.declared.judge.Refusal.TheVariants.{OutOfRange, ShortLog, ShortOutput}
-use Rattle.table.specs.declared.judge.Judgement.{Judgement}
-use Rattle.table.specs.declared.judge.Judgement.TheVariants as judgement
 use Rattle.table.specs.declared.edition.Edition.{Edition}
 use Rattle.table.specs.Editions.{layout_of}
 use Rattle.table.specs.Format.{theory_in, theory_of}
-use Rattle.table.specs.Refusals.{judgement_of, refused_by, Legal}
+use Rattle.table.specs.Refusals.{Judgement, judgement_of, refused_by, Legal}
 use Rattle.table.proofs.Legal.{refused_not, pass, legal, limited, ranged, proper_theory, theory_read}
 use Rattle.files.specs.Contents.{Content, content_in, content_of, sizes_for, file_of}
 use Rattle.files.proofs.Saying.{said}
-use Rattle.writing.specs.declared.answer.Written.{Written}
-use Rattle.writing.specs.declared.answer.Written.TheVariants as written
-use Rattle.writing.specs.Answers.{numbers_of}
+use Rattle.writing.specs.Answers.{Written, numbers_of}
 use Rattle.writing.specs.Output.{output_after, Wrote}
 use Rattle.writing.proofs.Answering.{wrote_not, wrote_new}
 use Rattle.writing.proofs.Appending.{written_whole}
 use Rattle.parting.specs.Parting.{part_of, part_file}
 use Rattle.parting.proofs.Parted.{part_of_lem}
-use Rattle.parts.specs.declared.answer.Listing.{Listing}
-use Rattle.parts.specs.declared.answer.Listing.TheVariants as listing
-use Rattle.parts.specs.Answers.{listing_number}
+use Rattle.parts.specs.Answers.{Listing, listing_number}
 use Rattle.parts.specs.Chains.{Words}
 use Rattle.parts.specs.Calls.{with_list, list_judgement, ListedLayout, Listed, with_atom, part_judgement, PartedLayout, Parted}
 
@@ -46,37 +41,33 @@ module _ (e : Edition) (b : List ℕ) (s : Sizes) (atom : ℕ) (out : List ℕ) 
   abbrev whole : Content
   whole = part_of (content_in b s) atom
 
-  pub atom_past : {out' : List ℕ} {a : Written} → s.atoms ≤ atom → (a ≡ written.Refused OutOfRange) × (out' ≡ out) → PartedLayout e b s atom out out' a
-  unfolding with_atom
-  atom_past h w = wrote_not OutOfRange _ (file_of e whole) (simp (true_of (leb s.atoms atom) (le→leb _ _ h))) w
-
   module _ (h : atom < s.atoms) where
     known : leb s.atoms atom ≡ false
     known = false_of _ (λ t. lt_irrefl atom (lt_of_lt_of_le h (leb→le _ _ t)))
 
-    pub output_short : {out' : List ℕ} {a : Written} {n : ℕ} → n ≡ length (file_of e whole) → length out < n → (a ≡ written.Refused ShortOutput) × (out' ≡ out)
+    pub output_short : {out' : List ℕ} {a : Written} {n : ℕ} → n ≡ length (file_of e whole) → length out < n → (a ≡ Err ShortOutput) × (out' ≡ out)
         → PartedLayout e b s atom out out' a
     unfolding with_atom
     output_short g k w = wrote_not ShortOutput _ (file_of e whole) (simp (known, lt-ltb (length out) (length (file_of e whole)) (subst (λ z. length out < z) g k))) w
 
-    pub file_whole : {out' : List ℕ} {n : ℕ} → n ≡ length (file_of e whole) → n ≤ length out → out' ≡ sets out 0 (file_of e whole) → PartedLayout e b s atom out out' (written.Bytes n)
+    pub file_whole : {out' : List ℕ} {n : ℕ} → n ≡ length (file_of e whole) → n ≤ length out → out' ≡ sets out 0 (file_of e whole) → PartedLayout e b s atom out out' (Ok n)
     unfolding with_atom
     file_whole g k f =
         let room : length (file_of e whole) ≤ length out = subst (λ z. z ≤ length out) g k in
-        wrote_new (sizes_for whole) _ (file_of e whole) (simp (known, le-ltb (length out) (length (file_of e whole)) room)) (ap written.Bytes g)
+        wrote_new (sizes_for whole) _ (file_of e whole) (simp (known, le-ltb (length out) (length (file_of e whole)) room)) (ap Ok g)
         (written_whole out (file_of e whole) room f)
 
 -- what a table is refused by comes before what is said of the atom
-table_first : (n : Refusal) (atom : ℕ) (c : Content) (file : List ℕ) (k : ℕ) → with_atom (judgement.Refused n) atom c file k ≡ judgement.Refused n
+table_first : (n : Refusal) (atom : ℕ) (c : Content) (file : List ℕ) (k : ℕ) → with_atom (Err n) atom c file k ≡ Err n
 unfolding with_atom
 table_first n atom c file k = refl
 
 -- a call that writes a part has accepted the table and the atom
-part_passed : (j : Judgement) (atom : ℕ) (c : Content) (file : List ℕ) (n : ℕ) (z : Sizes) → with_atom j atom c file n ≡ judgement.Accepted z
-    → (s : Sizes) × (j ≡ judgement.Accepted s) × (atom < s.atoms)
+part_passed : (j : Judgement) (atom : ℕ) (c : Content) (file : List ℕ) (n : ℕ) (z : Sizes) → with_atom j atom c file n ≡ Ok z
+    → (s : Sizes) × (j ≡ Ok s) × (atom < s.atoms)
 unfolding with_atom
-part_passed (judgement.Refused k) atom c file n z f = absurd (refused_not (sym (table_first k atom c file n) ∙ f))
-part_passed (judgement.Accepted s) atom c file n z f =
+part_passed (Err k) atom c file n z f = absurd (refused_not (sym (table_first k atom c file n) ∙ f))
+part_passed (Ok s) atom c file n z f =
     let (g, _) = pass (leb s.atoms atom) OutOfRange _ z f in (s, refl, lt_of_not-le (λ h. of_false _ g (le→leb _ _ h)))
 
 module _ (e : Edition) (b : List ℕ) (atom : ℕ) (out : List ℕ) where
@@ -88,16 +79,12 @@ module _ (e : Edition) (b : List ℕ) (atom : ℕ) (out : List ℕ) where
         file = λ z f. let (s, j, h) = part_passed (judgement_of e b) atom (part_of (content_of e b) atom) (part_file e b atom) (length out) z f in part_of_lem e b s atom j h;
       }
 
-  pub parted_by : (s : Sizes) (l : List ℕ) {out' : List ℕ} (a : Written) → judgement_of e b ≡ judgement.Accepted s → l ≡ layout_of e b → PartedLayout e l s atom out out' a
+  pub parted_by : (s : Sizes) (l : List ℕ) {out' : List ℕ} (a : Written) → judgement_of e b ≡ Ok s → l ≡ layout_of e b → PartedLayout e l s atom out out' a
       → Parted e b atom out out' (numbers_of a)
   parted_by s l {out'} a j f w =
       parted a
       (subst (λ i. Wrote (with_atom i atom (part_of (content_of e b) atom) (part_file e b atom) (length out)) (part_file e b atom) out out' a) (sym j)
-      (subst (λ z. Wrote (with_atom (judgement.Accepted s) atom (part_of z atom) (file_of e (part_of z atom)) (length out)) (file_of e (part_of z atom)) out out' a) (said e b l s j f) w))
-
-  pub parted_not : (n : Refusal) {out' : List ℕ} (a : Written) → judgement_of e b ≡ judgement.Refused n → (a ≡ written.Refused n) × (out' ≡ out) → Parted e b atom out out' (numbers_of a)
-  parted_not n a j w =
-      parted a (wrote_not n _ (part_file e b atom) (ap (λ i. with_atom i atom (part_of (content_of e b) atom) (part_file e b atom) (length out)) j ∙ table_first n atom (part_of (content_of e b) atom) (part_file e b atom) (length out)) w)
+      (subst (λ z. Wrote (with_atom (Ok s) atom (part_of z atom) (file_of e (part_of z atom)) (length out)) (file_of e (part_of z atom)) out out' a) (said e b l s j f) w))
 
 -- the first words of a list, one by one
 take_each : (f : ℕ → ℕ) (l : List ℕ) (n : ℕ) → n ≤ length l → ((i : ℕ) → i < n → get_or l i 0 ≡ f i) → take n l ≡ map f (upto n)
@@ -109,34 +96,28 @@ take_each f l (suc n) h e =
 
 -- 9, or the list
 module _ (b : List ℕ) (s : Sizes) (list : List ℕ) where
-  pub list_short : {n : ℕ} → n ≡ s.atoms → length list < n → ListedLayout b s list list (listing.Refused ShortLog)
-  unfolding with_list listing_number refused_by output_after
-  list_short e h =
-      let t = lt-ltb (length list) s.atoms (subst (λ z. length list < z) e h) in
-      (sym (ap (λ x. refused_by (cond x (judgement.Refused ShortLog) (judgement.Accepted s))) t), sym (ap (λ x. output_after (cond x (judgement.Refused ShortLog) (judgement.Accepted s)) (parts_list (theory_in b s)) list) t))
-
   pub list_whole : (words : List ℕ) {list' : List ℕ} {n : ℕ} → Legal b s → Words (theory_in b s) words → n ≡ s.atoms → n ≤ length list → list' ≡ take n words ++ drop n list
-      → ListedLayout b s list list' listing.Listed
+      → ListedLayout b s list list' (Ok tt)
   unfolding with_list listing_number refused_by output_after theory_in
   list_whole words {list'} l w e h f =
       let t = le-ltb (length list) s.atoms (subst (λ z. z ≤ length list) e h) in (
-        sym (ap (λ x. refused_by (cond x (judgement.Refused ShortLog) (judgement.Accepted s))) t),
+        sym (ap (λ x. refused_by (cond x (Err ShortLog) (Ok s))) t),
         f ∙ ap (λ z. take z words ++ drop z list) e
             ∙ ap₂ (λ k z. k ++ drop z list) (take_each (smallest (theory_in b s)) words s.atoms few w.each) (sym (length-map (upto s.atoms) (smallest (theory_in b s)) ∙ length_upto s.atoms))
-            ∙ sym (ap (λ x. output_after (cond x (judgement.Refused ShortLog) (judgement.Accepted s)) (parts_list (theory_in b s)) list) t),
+            ∙ sym (ap (λ x. output_after (cond x (Err ShortLog) (Ok s)) (parts_list (theory_in b s)) list) t),
       )
     where
       few : s.atoms ≤ length words
       few = omega (arith, w.size, (limited s l.limits).atoms)
 
 -- a call that lists has accepted the table
-list_passed : (j : Judgement) (n : ℕ) (z : Sizes) → with_list j n ≡ judgement.Accepted z → (s : Sizes) × (j ≡ judgement.Accepted s)
+list_passed : (j : Judgement) (n : ℕ) (z : Sizes) → with_list j n ≡ Ok z → (s : Sizes) × (j ≡ Ok s)
 unfolding with_list
-list_passed (judgement.Refused k) n z f = absurd (refused_not f)
-list_passed (judgement.Accepted s) n z f = (s, refl)
+list_passed (Err k) n z f = absurd (refused_not f)
+list_passed (Ok s) n z f = (s, refl)
 
 module _ (e : Edition) (b list : List ℕ) where
-  accepted_proper : (s : Sizes) → judgement_of e b ≡ judgement.Accepted s → T (proper (theory_of e b))
+  accepted_proper : (s : Sizes) → judgement_of e b ≡ Ok s → T (proper (theory_of e b))
   accepted_proper s j = subst (λ d. T (proper d)) (theory_read e b s j) (proper_theory (layout_of e b) s (ranged (layout_of e b) s (legal e b s j).ranges))
 
   listed : {list' : List ℕ} {n : ℕ} → n ≡ refused_by (list_judgement e b (length list)) → list' ≡ output_after (list_judgement e b (length list)) (parts_list (theory_of e b)) list
@@ -148,13 +129,8 @@ module _ (e : Edition) (b list : List ℕ) where
         parts = λ z h. let (s, j) = list_passed (judgement_of e b) (length list) z h in parts_right (theory_of e b) (accepted_proper s j);
       }
 
-  pub listed_by : (s : Sizes) (l : List ℕ) {list' : List ℕ} (a : Listing) → judgement_of e b ≡ judgement.Accepted s → l ≡ layout_of e b → ListedLayout l s list list' a
+  pub listed_by : (s : Sizes) (l : List ℕ) {list' : List ℕ} (a : Listing) → judgement_of e b ≡ Ok s → l ≡ layout_of e b → ListedLayout l s list list' a
       → Listed e b list list' (listing_number a)
   listed_by s l a j f (g, h) =
       listed (g ∙ ap (λ i. refused_by (with_list i (length list))) (sym j))
       (h ∙ ap₂ (λ i d. output_after (with_list i (length list)) (parts_list d) list) (sym j) (ap (λ z. theory_in z s) f ∙ theory_read e b s j))
-
-  pub listed_not : (n : Refusal) → judgement_of e b ≡ judgement.Refused n → Listed e b list list (listing_number (listing.Refused n))
-  unfolding with_list listing_number refused_by output_after
-  listed_not n j =
-      listed (sym (ap (λ i. refused_by (with_list i (length list))) j)) (sym (ap (λ i. output_after (with_list i (length list)) (parts_list (theory_of e b)) list) j))

@@ -2,21 +2,20 @@
 use Prim.Native.Nat.{ℕ, ◌+◌, ◌*◌, ◌≤◌, ◌<◌}
 use native.Mathlib.Omega.{arith}
 use mathlib.Core.Path.{◌≡◌, refl, sym, ◌∙◌, ap, ap₂, subst}
-use mathlib.Core.Logic.{⊎_elim}
-use mathlib.Core.Bool.{false}
+use mathlib.Core.Bool.{Bool, true, false}
+use mir.Val.{bool_byte}
+use Rattle.std.proofs.lemmas.Grind.{common_steps}
 use mathlib.Core.List.{List, ◌++◌, map, map-append}
 use lib.ListN.{length, get_or, set, length-map}
-use lib.Seq.{get_or-set_same, get_or-set_other}
-use Rattle.logic.specs.Tests.{count_below, upto, pick}
-use Rattle.logic.proofs.Tests.{lt_suc_cases}
+use Rattle.logic.specs.Tests.{count_below, weigh, upto, pick}
 use Rattle.logic.proofs.Sums.{count_upto}
-use Rattle.logic.proofs.Pigeon.{counted_le}
+use Rattle.logic.proofs.Pigeon.{counted_le, counted_next}
 use Rattle.table.specs.declared.format.Sizes.{Sizes}
 use Rattle.table.specs.Refusals.{oversize, Legal}
-use Rattle.table.proofs.Legal.{limited, ranged, rule_below, stronger_below, weaker_below}
+use Rattle.table.proofs.Legal.{limited}
 use Rattle.files.specs.Contents.{Content, content_in, fact_of, rule_of, entry_of, pair_of, sizes_for, Row, fact_row, rule_row, entry_row, pair_row, rows_of}
 use Rattle.files.proofs.Lists.{map_map}
-use Rattle.files.proofs.Saying.{sizes_say, entry_says, pair_says}
+use Rattle.files.proofs.Saying.{sizes_say}
 use Rattle.writing.specs.declared.columns.Side.{Side}
 use Rattle.writing.specs.Columns.{word_in, with_words}
 use Rattle.writing.proofs.Appending.{words_then}
@@ -26,7 +25,16 @@ use Rattle.parting.proofs.Numbering.{kept_le}
 use Rattle.parting.proofs.Proper.{part_limits}
 use Rattle.parts.specs.declared.kept.Section.{Section}
 use Rattle.parts.specs.declared.kept.Section.TheVariants.{Facts, Rules, Entries, Pairs}
-use Rattle.parts.specs.Kept.{size_of, kept_in, row_by, rows_in, Numbered}
+use Rattle.parts.specs.Kept.{size_of, kept_in, row_by, rows_in}
+
+-- a count goes on by a test
+byte_weighs : (b : Bool) → bool_byte b ≡ weigh b 1
+unfolding weigh
+byte_weighs true = refl
+byte_weighs false = refl
+
+pub counted_on : (i : ℕ) (p : ℕ → Bool) {n x : ℕ} {t : Bool} → n ≡ count_below i p → x ≡ bool_byte t → t ≡ p i → n + x ≡ count_below (i + 1) p
+counted_on i p {n} {t = t} e f g = counted_next i p e (ap (λ k. n + k) (f ∙ byte_weighs t)) g
 
 -- the rows of a part are those of its sections
 module _ (c : Content) (a : ℕ) where
@@ -71,37 +79,22 @@ module _ (b : List ℕ) (s : Sizes) (a : ℕ) where
   pub count_is : (x : Section) {n : ℕ} → n ≡ count_below (size_of s x) (kept_in (content_in b s) a x) → n ≡ size_of (sizes_for (part_of (content_in b s) a)) x
   count_is x e = e ∙ ap (λ z. count_below (size_of z x) (kept_in (content_in b s) a x)) (sym (sizes_say b s)) ∙ kept_size (content_in b s) a x
 
-  pub count_fits : (x : Section) {n m : ℕ} → n ≡ count_below (size_of s x) (kept_in (content_in b s) a x) → size_of s x ≤ m → n ≤ m
-  count_fits x e h = omega (arith, h, counted_le (size_of s x) (kept_in (content_in b s) a x) e)
+  -- the words of the rows of a section, and that those of the first i rows are put
+  abbrev pub row_word : Side → Section → ℕ → ℕ
+  row_word side x i = word_in side (row_by (content_in b s) (number_in (content_in b s) a) x i)
 
-  -- the words of a section, all of them put
+  abbrev pub PutTo : Side → Section → List ℕ → ℕ → ℕ → ℕ → List ℕ → Type 0
+  PutTo side x out at i place o = Put (row_word side x) out at (kept_in (content_in b s) a x) i place o
+
+  -- all of them put
   pub rows_put : (side : Side) (x : Section) (out : List ℕ) (at : ℕ) {place : ℕ} {o : List ℕ}
-      → Put (λ i. word_in side (row_by (content_in b s) (number_in (content_in b s) a) x i)) out at (kept_in (content_in b s) a x) (size_of s x) place o
+      → PutTo side x out at (size_of s x) place o
       → (place ≡ at + 2 * length (rows_in (content_in b s) a x)) × (o ≡ with_words out at (map (word_in side) (rows_in (content_in b s) a x)))
   rows_put side x out at {place} {o} w =
       let (e, f) = subst (λ z. Put (λ i. word_in side (row_by (content_in b s) (number_in (content_in b s) a) x i)) out at (kept_in (content_in b s) a x) (size_of z x) place o) (sym (sizes_say b s)) w in (
         e ∙ ap (λ n. at + 2 * n) (sym (length-map (pick (upto (size_of (sizes_for (content_in b s)) x)) (kept_in (content_in b s) a x)) (row_by (content_in b s) (number_in (content_in b s) a) x))),
         f ∙ ap (with_words out at) (sym (map_map (word_in side) (row_by (content_in b s) (number_in (content_in b s) a) x) (pick (upto (size_of (sizes_for (content_in b s)) x)) (kept_in (content_in b s) a x)))),
       )
-
-  module _ (l : Legal b s) (numbers : List ℕ) (w : Numbered (content_in b s) a numbers) where
-    number_is : {r n : ℕ} → r ≡ n → r < s.rules → get_or numbers n 0 ≡ number_in (content_in b s) a n
-    number_is {r} {n} e h = w.each n (subst (λ z. n < z.rules) (sym (sizes_say b s)) (subst (λ z. z < s.rules) e h))
-
-    -- the rows by an array of the new numbers
-    row_is : (x : Section) (i : ℕ) → i < size_of s x → row_by (content_in b s) (λ r. get_or numbers r 0) x i ≡ row_by (content_in b s) (number_in (content_in b s) a) x i
-    unfolding row_by size_of
-    row_is Facts i h = refl
-    row_is Rules i h = refl
-    row_is Entries i h =
-        ap (λ n. record { left = n; right = (entry_of (content_in b s) i).literal.0 }) (number_is (ap (λ z. z.rule) (entry_says b s i)) (rule_below b s (ranged b s l.ranges) i h))
-    row_is Pairs i h =
-        ap₂ (λ n m. record { left = n; right = m }) (number_is (ap (λ z. z.stronger) (pair_says b s i)) (stronger_below b s (ranged b s l.ranges) i h))
-        (number_is (ap (λ z. z.weaker) (pair_says b s i)) (weaker_below b s (ranged b s l.ranges) i h))
-
-    pub word_is : (side : Side) (x : Section) (i : ℕ) {v : ℕ} → i < size_of s x → v ≡ word_in side (row_by (content_in b s) (λ r. get_or numbers r 0) x i)
-        → v ≡ word_in side (row_by (content_in b s) (number_in (content_in b s) a) x i)
-    word_is side x i h e = e ∙ ap (word_in side) (row_is x i h)
 
   -- a section of the part is not longer, and its sizes are within their limits
   pub rows_few : (x : Section) → length (rows_in (content_in b s) a x) ≤ size_of s x
@@ -125,10 +118,7 @@ module _ (b : List ℕ) (s : Sizes) (a : ℕ) where
   pub numbered_next : (i : ℕ) (numbers : List ℕ) {n m : ℕ} → i < length numbers → NumberedTo i numbers n → m ≡ count_below (i + 1) (rule_in (content_in b s) a)
       → NumberedTo (i + 1) (set numbers i n) m
   unfolding number_in
-  numbered_next i numbers {n} h (e, f) g = (g, λ r k. ⊎_elim (λ j. before r j) (λ j. here r j) (lt_suc_cases r i (let q : r < ℕ.suc i = omega arith in q)))
-    where
-      before : (r : ℕ) → r < i → get_or (set numbers i n) r 0 ≡ count_below r (rule_in (content_in b s) a)
-      before r j = get_or-set_other numbers i r n 0 (λ o. absurd (omega (arith, o))) ∙ f r j
+  numbered_next i numbers h w g = grind (arith, common_steps)
 
-      here : (r : ℕ) → r ≡ i → get_or (set numbers i n) r 0 ≡ count_below r (rule_in (content_in b s) a)
-      here r j = ap (λ z. get_or (set numbers i n) z 0) j ∙ get_or-set_same numbers i n 0 h ∙ e ∙ ap (λ z. count_below z (rule_in (content_in b s) a)) (sym j)
+-- for the functions that count
+pub ruleset counting = (counted_on, counted_le, section_short)

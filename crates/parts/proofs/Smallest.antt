@@ -1,17 +1,18 @@
 -- The roots once all entries of a layout were taken in are the smallest atoms of the parts. Assumes nothing.
+use Rattle.std.proofs.lemmas.Grind.{common_steps}
 use Prim.Native.Nat.{ℕ, zero, suc, ◌+◌, ◌≤◌, ◌<◌}
-use native.Mathlib.Nat.{le_refl, le_trans, le_antisymm}
+use native.Mathlib.Nat.{le_refl, le_trans}
 use native.Mathlib.Numerals.{add-one}
 use native.Mathlib.Omega.{arith}
 use mathlib.Core.Path.{◌≡◌, refl, sym, ◌∙◌, ap, subst}
 use mathlib.Core.Logic.{⊎_elim}
 use mathlib.Core.Bool.{cond}
 use mathlib.Core.List.{List}
-use lib.Dec.{T, eqb, eqb→eq, eqb_refl}
+use lib.Dec.{T, eqb, eqb_refl}
 use Rattle.logic.specs.Tests.{upto}
 use Rattle.logic.specs.Theory.{atom, head_of}
 use Rattle.logic.specs.Parts.{mentions, linked, smallest, Together, own, next}
-use Rattle.logic.proofs.Tests.{cond_cases, cond_true, eq→eqb, lt_suc_cases}
+use Rattle.logic.proofs.Tests.{lt_suc_cases}
 use Rattle.logic.proofs.Lists.{member_map_intro, member_pick_intro, member_upto_intro}
 use Rattle.logic.proofs.Parts.{head_mentioned, antecedent_mentioned, mentioned_cases, linked_by, linked_elim, together_trans, together_one, together_sym, smallest_only}
 use Rattle.table.specs.declared.format.Sizes.{Sizes}
@@ -21,33 +22,20 @@ use Rattle.table.specs.Format.{rule_at, entry_at, body_in, theory_in}
 use Rattle.table.specs.Refusals.{Legal}
 use Rattle.table.proofs.Legal.{limited, ranged, rule_below, literal_below, head_below, body_entry, proper_theory}
 use Rattle.parts.specs.Chains.{Alone, Rooted, lower, upper, chained, Chained, roots_by, ChainedBy, Flat, Words}
-use Rattle.parts.proofs.Roots.{ordered}
 
 -- where two atoms are chained together no root rises, each goes over to one of the two, and the two have the same
 module _ (f : ℕ → ℕ) (a b : ℕ) where
   chained_le : (z : ℕ) → chained f a b z ≤ f z
   unfolding chained
-  chained_le z =
-      cond_cases (λ x. x ≤ f z) (eqb (f z) (upper (f a) (f b))) (lower (f a) (f b)) (f z)
-      (λ t. subst (λ x. lower (f a) (f b) ≤ x) (sym (eqb→eq _ _ t)) (ordered (λ h l. l ≤ h) (f a) (f b) (λ l. omega arith) (λ l. l))) (λ _. le_refl (f z))
+  chained_le z = grind (arith, common_steps)
 
   chained_cases : (P : ℕ → Type 0) (z : ℕ) → P (f z) → (f z ≡ f a → P (f b)) → (f z ≡ f b → P (f a)) → P (chained f a b z)
   unfolding chained
-  chained_cases P z same left right =
-      cond_cases P (eqb (f z) (upper (f a) (f b))) (lower (f a) (f b)) (f z)
-      (λ t. ordered (λ h l. f z ≡ h → P l) (f a) (f b) (λ _. right) (λ _. left) (eqb→eq _ _ t)) (λ _. same)
+  chained_cases P z same left right = grind (arith, common_steps)
 
   chained_both : chained f a b a ≡ chained f a b b
   unfolding chained
-  chained_both =
-      ordered (λ h l. cond (eqb (f a) h) l (f a) ≡ cond (eqb (f b) h) l (f b)) (f a) (f b) (λ _. low (f a) (f b) ∙ sym (high (f b) (f a)))
-      (λ _. high (f a) (f b) ∙ sym (low (f b) (f a)))
-    where
-      high : (h l : ℕ) → cond (eqb h h) l h ≡ l
-      high h l = cond_true (eqb h h) l h (eq→eqb h h refl)
-
-      low : (l h : ℕ) → cond (eqb l h) l l ≡ l
-      low l h = cond_cases (λ x. x ≡ l) (eqb l h) l l (λ _. refl) (λ _. refl)
+  chained_both = grind (arith, common_steps)
 
   chained_keeps : {y z : ℕ} → f y ≡ f z → chained f a b y ≡ chained f a b z
   unfolding chained
@@ -63,16 +51,15 @@ literal_atom b s i = atom (entry_at b s i).literal.0
 -- as they are read
 pub head_read : (b : List ℕ) (s : Sizes) (i : ℕ) {entry : Entry} {rule : Rule} {w x : ℕ} → entry ≡ entry_at b s i → w ≡ entry.rule → rule ≡ rule_at b s w
     → x ≡ atom rule.head.0 → x ≡ head_atom b s i
-head_read b s i e f g h = h ∙ ap (λ r. atom r.head.0) (g ∙ ap (rule_at b s) (f ∙ ap (λ n. n.rule) e))
+head_read b s i e f g h = grind (arith, common_steps)
 
 pub literal_read : (b : List ℕ) (s : Sizes) (i : ℕ) {entry : Entry} {x : ℕ} → entry ≡ entry_at b s i → x ≡ atom entry.literal.0 → x ≡ literal_atom b s i
-literal_read b s i e h = h ∙ ap (λ n. atom n.literal.0) e
+literal_read b s i e h = grind (arith, common_steps)
 
--- no entry, one entry more, all entries
+-- no entry, one entry more
 pub chained_none : (b : List ℕ) (s : Sizes) {p : List ℕ} → Alone p → ChainedBy b s 0 p
 unfolding roots_by
-chained_none b s w =
-    record { falling = record { size = w.size; falls = λ a h. omega (arith, w.own a h) }; roots = record { up = λ a h. w.own a h; top = λ a h e. refl } }
+chained_none b s w = grind (arith, common_steps)
 
 pub chained_next : (b : List ℕ) (s : Sizes) (i : ℕ) {p q : List ℕ} {x y : ℕ} → x ≡ head_atom b s i → y ≡ literal_atom b s i → ChainedBy b s i p → Chained p x y q
     → ChainedBy b s (i + 1) q
@@ -85,9 +72,6 @@ chained_next b s i {q = q} {x} {y} e g w c =
           subst (λ x. Rooted (chained (roots_by b s i) x (literal_atom b s i)) q) e
           (subst (λ y. Rooted (chained (roots_by b s i) x y) q) g (c.roots (roots_by b s i) w.roots));
     }
-
-pub chained_all : (b : List ℕ) (s : Sizes) (i : ℕ) {p : List ℕ} → i ≤ s.entries → s.entries ≤ i → ChainedBy b s i p → ChainedBy b s s.entries p
-chained_all b s i {p} h l w = subst (λ n. ChainedBy b s n p) (le_antisymm h l) w
 
 module _ (b : List ℕ) (s : Sizes) where
   -- no root is larger than its atom

@@ -2,10 +2,15 @@
 use Rattle.std.specs.Prelude.{ℕ, ◌<◌, ◌≡◌, Bool, List, map, length, get_or}
 use Rattle.logic.specs.Tests.{upto, pick}
 use Rattle.table.specs.declared.format.Sizes.{Sizes}
-use Rattle.files.specs.Contents.{Content, fact_of, rule_of, entry_of, pair_of, sizes_for, Row, fact_row, rule_row}
+use Rattle.table.specs.declared.accepted.Table.{Table}
+use Rattle.files.specs.Contents.{Content, content_in, fact_of, rule_of, entry_of, pair_of, sizes_for, Row, fact_row, rule_row}
 use Rattle.parting.specs.Parting.{rule_in, number_in, fact_kept, entry_kept, pair_kept}
 use Rattle.parts.specs.declared.kept.Section.{Section}
 use Rattle.parts.specs.declared.kept.Section.TheVariants.{Facts, Rules, Entries, Pairs}
+
+-- what a table says, as it is listed
+abbrev pub content_said : Table → Content
+content_said t = content_in t.layout.now t.sizes
 
 -- how many rows a section has
 unfoldable pub size_of : Sizes → Section → ℕ

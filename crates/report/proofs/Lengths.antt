@@ -1,9 +1,8 @@
 -- How long a sheet's lines are: the longest sheet has 5,041 bytes. Assumes nothing.
 use Prim.Native.Nat.{ℕ, zero, suc, ◌+◌, ◌-◌, ◌*◌, ◌≤◌, ◌<◌}
-use native.Mathlib.Nat.{le_antisymm}
 use native.Mathlib.Numerals.{add-one}
 use native.Mathlib.Omega.{arith}
-use mathlib.Core.Path.{◌≡◌, refl, sym, ap, ap₂, subst}
+use mathlib.Core.Path.{◌≡◌, refl, sym, ap, ap₂}
 use mathlib.Core.Logic.{⊎_elim}
 use mathlib.Core.List.{List, ◌++◌}
 use lib.ListN.{length, take, length-append}
@@ -18,6 +17,7 @@ use Rattle.report.specs.Text.{decimal, word_of, atoms_word, spent_word, of_word,
 use Rattle.report.specs.Sheet.{atom_line, atom_lines, count_line, spent_line, run_sheet, refused_sheet, verdict_in}
 use Rattle.table.specs.declared.format.Sizes.{Sizes}
 use Rattle.table.specs.Format.{theory_in}
+use Rattle.table.specs.Refusals.{Legal}
 use Rattle.table.proofs.Legal.{limited}
 use Rattle.engine.specs.declared.answer.Counts.{Counts}
 use Rattle.standing.specs.Marks.{marked, Marked}
@@ -25,7 +25,7 @@ use Rattle.standing.specs.Answers.{standing_by}
 use Rattle.standing.proofs.Marking.{marked_held}
 use Rattle.report.specs.Printing.{Put, Supported, FitsRun}
 use Rattle.report.proofs.Decimal.{length_1, length_2, length_3, length_5}
-use Rattle.report.proofs.Puts.{room_left, put_nothing, put_put}
+use Rattle.report.proofs.Puts.{put_nothing, put_put, put_same}
 use Rattle.report.proofs.Supporters.{unmarked_unsupported}
 use Rattle.report.proofs.Verdicts.{verdict_same}
 
@@ -113,36 +113,27 @@ line_room f a from at v h k e g =
     let m : length (atom_line a v) ≡ length (atom_line a (f a)) = ap (λ w. length (atom_line a w)) g in
     omega (arith, lines_room f (a + 1) from h (omega arith), l, length-append (atom_lines f a) (atom_line a (f a)), e, m)
 
-pub lines_next : (f : ℕ → Verdict) (a : ℕ) {out₀ out out' : List ℕ} {from at r : ℕ} {v : Verdict} → from ≤ 10 → a < 512 → length out₀ ≡ 5041
-    → Put out₀ from (atom_lines f a) out at → v ≡ f a → Put out at (atom_line a v) out' r → Put out₀ from (atom_lines f (a + 1)) out' r
-lines_next f a {out₀} {out} {out'} {from} {at} {r} {v} h k l p e q =
-    subst (λ z. Put out₀ from z out' r) (sym (lines_more f a))
-    (put_put (omega (arith, lines_room f (a + 1) from h (omega arith), ap length (lines_more f a), l)) p (subst (λ w. Put out at (atom_line a w) out' r) e q))
-
-pub lines_end : (f : ℕ → Verdict) {a n : ℕ} {out₀ out : List ℕ} {from at : ℕ} → a ≤ n → n ≤ a → Put out₀ from (atom_lines f a) out at → Put out₀ from (atom_lines f n) out at
-lines_end f {a} {n} {out₀} {out} {from} {at} h k p = subst (λ z. Put out₀ from (atom_lines f z) out at) (le_antisymm h k) p
+pub lines_next : (f : ℕ → Verdict) (a : ℕ) {out₀ out out' : List ℕ} {from at r : ℕ} {v : Verdict} → from ≤ length out₀ → Put out₀ from (atom_lines f a) out at → v ≡ f a → Put out at (atom_line a v) out' r → Put out₀ from (atom_lines f (a + 1)) out' r
+lines_next f a h p e q = put_same (sym (lines_more f a)) (put_put h p (put_same (ap (atom_line a) e) q))
 
 -- the verdicts by the marks of a log and of the literals that have a supporter which is not out
 abbrev pub verdicts_by : List ℕ → List ℕ → ℕ → Verdict
 verdicts_by marks supported = verdict_by (tagged_by 4 (marked marks)) (λ q. isnt (marked supported q))
 
 -- the three parts of a run's sheet
-pub put_run_parts : (b : List ℕ) (s : Sizes) (most : ℕ) (log : List ℕ) (c : Counts) (marks supported : List ℕ) {out out₁ out₂ out₃ : List ℕ} {r₁ r₂ r₃ : ℕ} → FitsRun b s most log c
-    → length out ≡ 5041 → Marked (take c.lines log) marks → Supported (theory_in b s) (λ r. standing_by b s r marks) supported
-    → Put out 0 (count_line s.atoms) out₁ r₁ → Put out₁ r₁ (atom_lines (verdicts_by marks supported) s.atoms) out₂ r₂
-    → Put out₂ r₂ (spent_line c.spent most) out₃ r₃ → Put out 0 (run_sheet (theory_in b s) (take c.lines log) c.spent most) out₃ r₃
+pub put_run_parts : (b : List ℕ) (s : Sizes) → Legal b s → (most : ℕ) (log : List ℕ) (c : Counts) (marks supported : List ℕ) {out out₁ out₂ out₃ : List ℕ} {at r₁ r₂ r₃ : ℕ}
+    → FitsRun (theory_in b s) most log c → at ≤ length out → Marked (take c.lines log) marks → Supported (theory_in b s) (λ r. standing_by b s r marks) supported
+    → Put out at (count_line s.atoms) out₁ r₁ → Put out₁ r₁ (atom_lines (verdicts_by marks supported) s.atoms) out₂ r₂
+    → Put out₂ r₂ (spent_line c.spent most) out₃ r₃ → Put out at (run_sheet (theory_in b s) (take c.lines log) c.spent most) out₃ r₃
 unfolding run_sheet theory_in
-put_run_parts b s most log c marks supported {out} {out₁} {out₂} {out₃} {r₁} {r₂} {r₃} f l m u p q r =
-    put_put room (put_put (room_left 0 (length out) (count_line s.atoms ++ atom_lines (verdict_in (theory_in b s) (take c.lines log)) s.atoms) (spent_line c.spent most) room) p (subst (λ z. Put out₁ r₁ z out₂ r₂) same q)) r
+put_run_parts b s e most log c marks supported f l m u p q r =
+    put_put l (put_put l p (put_same same q)) r
   where
     few : s.atoms ≤ 512
-    few = (limited s f.table.limits).atoms
-
-    room : 0 + length (run_sheet (theory_in b s) (take c.lines log) c.spent most) ≤ length out
-    room = omega (arith, run_length (theory_in b s) (take c.lines log) c.spent most few f.spent f.most, l)
+    few = (limited s e.limits).atoms
 
     same : atom_lines (verdicts_by marks supported) s.atoms ≡ atom_lines (verdict_in (theory_in b s) (take c.lines log)) s.atoms
     same = atoms_same (verdicts_by marks supported) (verdict_in (theory_in b s) (take c.lines log)) s.atoms
         (λ n h. verdict_same (marked marks) (held (take c.lines log)) (λ q. isnt (marked supported q)) (unsupported (theory_in b s) (tagged_by 4 (held (take c.lines log)))) n
         (λ x k. marked_held (take c.lines log) marks m x (omega (arith, few)))
-        (λ x k. unmarked_unsupported b s f.table (take c.lines log) marks supported m f.never u x (omega (arith, few))))
+        (λ x k. unmarked_unsupported b s e (take c.lines log) marks supported m f.never u x (omega (arith, few))))

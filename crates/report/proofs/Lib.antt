@@ -4,5 +4,4 @@ pub mod Supporters
 pub mod Verdicts
 pub mod Lengths
 pub mod Running
-pub mod Words
 pub mod Answers

@@ -6,7 +6,7 @@ use native.Mathlib.Omega.{arith}
 use mathlib.Core.Path.{◌≡◌, refl, sym, ◌∙◌, ap, ap₂, subst}
 use mathlib.Core.List.{List, [], ◌∷◌, ◌++◌, append_assoc, append-nil}
 use lib.ListN.{length, take, drop, set, replicate, length-append, take-append-drop}
-use lib.Seq.{paste, take_at, drop_at, drop-drop, length-take-le, take-length, set_split}
+use lib.Seq.{take_at, drop_at, drop-drop, length-take-le, set_split}
 use Rattle.report.specs.Text.{digit, decimal}
 use Rattle.report.specs.Printing.{Put}
 use Rattle.report.proofs.Decimal.{decimal_one, decimal_more}
@@ -22,12 +22,7 @@ put_nothing out at =
       end = sym (add-zero at);
     }
 
--- room for two texts is room for the first
-pub room_left : (at n : ℕ) (t u : List ℕ) → at + length (t ++ u) ≤ n → at + length t ≤ n
-room_left at n t u h = omega (arith, length-append t u)
-
-pub put_put : {out out₁ out₂ t u : List ℕ} {at r₁ r₂ : ℕ} → at + length (t ++ u) ≤ length out → Put out at t out₁ r₁ → Put out₁ r₁ u out₂ r₂
-    → Put out at (t ++ u) out₂ r₂
+pub put_put : {out out₁ out₂ t u : List ℕ} {at r₁ r₂ : ℕ} → at ≤ length out → Put out at t out₁ r₁ → Put out₁ r₁ u out₂ r₂ → Put out at (t ++ u) out₂ r₂
 put_put {out} {out₁} {out₂} {t} {u} {at} {r₁} {r₂} h p q =
     record {
       bytes =
@@ -40,7 +35,7 @@ put_put {out} {out₁} {out₂} {t} {u} {at} {r₁} {r₂} h p q =
     place = omega (arith, length-append t u)
 
     first : length (take at out ++ t) ≡ r₁
-    first = head_length out at t (omega (arith, length-append t u)) ∙ sym p.end
+    first = head_length out at t h ∙ sym p.end
 
     front : take r₁ out₁ ≡ take at out ++ t
     front = ap (take r₁) p.bytes ∙ take_at (take at out ++ t) (drop (at + length t) out) r₁ first
@@ -58,21 +53,17 @@ put_one {out} {at} {x} {d} e h = record { bytes = ap (set out at) e ∙ set_spli
     one : take at out ++ (d ∷ drop (suc at) out) ≡ take at out ++ (d ∷ []) ++ drop (at + 1) out
     one = ap (λ k. take at out ++ (d ∷ drop k out)) (sym (add-one at)) ∙ sym (append_assoc (take at out) (d ∷ []) (drop (at + 1) out))
 
-pub put_pasted : (out : List ℕ) (at : ℕ) (t : List ℕ) (n : ℕ) (out' : List ℕ) → out' ≡ paste out at t n → n ≡ length t → Put out at t out' (at + length t)
-put_pasted out at t n out' e f =
-    record {
-      bytes = e ∙ ap (λ k. paste out at t k) f ∙ ap (λ (z : List ℕ). take at out ++ z ++ drop (at + length t) out) (take-length t);
-      end = refl;
-    }
+-- a text that is another
+pub put_same : {out out' t u : List ℕ} {at r : ℕ} → t ≡ u → Put out at t out' r → Put out at u out' r
+put_same {out} {out'} {at = at} {r = r} e p = subst (λ z. Put out at z out' r) e p
 
 -- a number's digits
 pub put_decimal_one : {out out' : List ℕ} {at r n : ℕ} → n < 10 → Put out at (digit n ∷ []) out' r → Put out at (decimal n) out' r
-put_decimal_one {out} {out'} {at} {r} {n} h p = subst (λ z. Put out at z out' r) (sym (decimal_one n h)) p
+put_decimal_one {n = n} h p = put_same (sym (decimal_one n h)) p
 
-pub put_decimal_more : {out out₁ out₂ : List ℕ} {at r₁ r₂ n : ℕ} → 10 ≤ n → at + length (decimal n) ≤ length out → Put out at (decimal (n / 10)) out₁ r₁
+pub put_decimal_more : {out out₁ out₂ : List ℕ} {at r₁ r₂ n : ℕ} → 10 ≤ n → at ≤ length out → Put out at (decimal (n / 10)) out₁ r₁
     → Put out₁ r₁ (digit (n % 10) ∷ []) out₂ r₂ → Put out at (decimal n) out₂ r₂
-put_decimal_more {out} {out₁} {out₂} {at} {r₁} {r₂} {n} h room p q =
-    subst (λ z. Put out at z out₂ r₂) (sym (decimal_more n h)) (put_put (subst (λ z. at + length z ≤ length out) (decimal_more n h) room) p q)
+put_decimal_more {n = n} h room p q = put_same (sym (decimal_more n h)) (put_put room p q)
 
 -- a text put into zeros
 drop_zeros : (n k : ℕ) → drop {A = ℕ} k (replicate n 0) ≡ replicate (n - k) 0

@@ -1,15 +1,13 @@
 -- The marked cases of document 01 ("P") as rows: a table's words, a budget and the lengths of log and scratch in; the refusal's number
 -- or 0, 1 if it finished, the log, worked, spent, the bound and the verdicts out. And case 1's sheet, as it is printed.
-use Rattle.std.specs.Prelude.{ℕ, ◌-◌, ◌/◌, ◌%◌, Bool, true, List, [], ◌∷◌, ◌++◌, map, eqb, length, replicate}
+use Rattle.std.specs.Prelude.{ℕ, ◌-◌, ◌/◌, ◌%◌, Bool, true, List, [], ◌∷◌, ◌++◌, map, eqb, length, replicate, Ok, Err}
 use Rattle.logic.specs.Tests.{◌and◌, upto}
 use Rattle.logic.specs.Verdict.{Verdict, clash, go, split, «open»}
 use Rattle.logic.specs.Cases.{same_list}
 use Rattle.logic.specs.Theory.{Theory}
-use Rattle.table.specs.declared.judge.Judgement.{Judgement}
-use Rattle.table.specs.declared.judge.Judgement.TheVariants.{Accepted, Refused}
 use Rattle.table.specs.declared.edition.Edition.TheVariants.{Old}
 use Rattle.table.specs.Format.{theory_of}
-use Rattle.table.specs.Refusals.{judgement_of}
+use Rattle.table.specs.Refusals.{Judgement, judgement_of}
 use Rattle.engine.specs.declared.answer.Numbers.{Numbers}
 use Rattle.engine.specs.Answers.{numbers_of, run_of, call_judgement, answer_to, log_after}
 use Rattle.report.specs.Text.{word_of, space}
@@ -39,8 +37,8 @@ row t b l s n f d w p m v =
 
 -- the verdicts by a log's lines; a refused table has none
 unfoldable pub verdicts_of : Judgement → Theory → List ℕ → List Verdict
-verdicts_of (Accepted s) d lines = map (verdict_in d lines) (upto s.atoms)
-verdicts_of (Refused n) d lines = []
+verdicts_of (Ok s) d lines = map (verdict_in d lines) (upto s.atoms)
+verdicts_of (Err n) d lines = []
 
 -- the words of verdicts, each with a space after it
 unfoldable pub words_of : List Verdict → List ℕ

@@ -36,16 +36,16 @@ sheet_to d most log (Refused n) = refused_sheet (number_of n)
 sheet_to d most log (Stopped c) = run_sheet d (take c.lines log) c.spent most
 sheet_to d most log (Finished c) = run_sheet d (take c.lines log) c.spent most
 
--- What a run of an accepted table, with layout b and sizes s, keeps to: no rule fires and is out over its lines; and, so that its sheet
--- has room, numbers of at most five digits.
-pub record FitsRun (b : List ℕ) (s : Sizes) (m : ℕ) (log : List ℕ) (c : Counts) : Type 0 where
-  pub table : Legal b s
+-- What a run of an accepted table, which says d, keeps to: no rule fires and is out over its lines; and, so that its sheet has room,
+-- numbers of at most five digits.
+pub record FitsRun (d : Theory) (m : ℕ) (log : List ℕ) (c : Counts) : Type 0 where
   pub lines : c.lines ≤ length log
-  pub never : NeverBoth (theory_in b s) 1 (tagged_by 4 (held (take c.lines log)))
+  pub never : NeverBoth d 1 (tagged_by 4 (held (take c.lines log)))
   pub spent : c.spent < 100000
   pub most : m < 100000
 
+-- and by the engine's answer, for a layout b and sizes s, which are a table's where the run was not refused
 unfoldable pub Fits : List ℕ → Sizes → ℕ → List ℕ → Answer → Type 0
 Fits b s most log (Refused n) = Unit
-Fits b s most log (Stopped c) = FitsRun b s most log c
-Fits b s most log (Finished c) = FitsRun b s most log c
+Fits b s most log (Stopped c) = Legal b s × FitsRun (theory_in b s) most log c
+Fits b s most log (Finished c) = Legal b s × FitsRun (theory_in b s) most log c

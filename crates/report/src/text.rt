@@ -1,43 +1,45 @@
-// Text put into the bytes of a sheet, at a place; the answer is the place after it.
+// Text put into the bytes of a sheet, after those that it has.
 ghost use Rattle.std.specs.Prelude.{◌+◌, ◌≤◌, ◌<◌, ◌≡◌, [], ◌∷◌, length};
 ghost use Rattle.report.specs.Text.{digit, decimal};
 ghost use Rattle.report.specs.Printing.{Put};
 
-pub fn put(out: &mut [u8], at: usize, text: &[u8]) -> usize
-    requires { at + length text.now ≤ length out.old }
-    ensures { Put out.old at text.now out.new result }
-{
-    let mut i: usize = 0;
-    while i < text.len() {
-        out[at + i] = text[i];
-        i += 1;
-    }
-    at + text.len()
-}
+use crate::sheet::Sheet;
 
 fn ascii(n: u32) -> u8
     requires { n < 10 }
     ensures { result ≡ digit n }
 {
-    48 + n as u8
+    b'0' + n as u8
 }
 
-fn put_digit(out: &mut [u8], at: usize, n: u32) -> usize
-    requires { (n < 10) × (at < length out.old) }
-    ensures { Put out.old at (digit n ∷ []) out.new result }
-{
-    out[at] = ascii(n);
-    at + 1
-}
-
-// A number in decimal.
-pub fn put_number(out: &mut [u8], at: usize, n: u32) -> usize
-    requires { at + length (decimal n) ≤ length out.old }
-    ensures { Put out.old at (decimal n) out.new result }
-{
-    if n < 10 {
-        return put_digit(out, at, n);
+impl Sheet {
+    pub(crate) fn put(&mut self, text: &[u8])
+        requires { self.old.length + length text.now ≤ 5041 }
+        ensures { Put self.old.bytes self.old.length text.now self.new.bytes self.new.length }
+    {
+        let end = self.length + text.len();
+        self.bytes[self.length..end].copy_from_slice(text);
+        self.length = end;
     }
-    let last = put_number(out, at, n / 10);
-    put_digit(out, last, n % 10)
+
+    fn put_digit(&mut self, n: u32)
+        requires { (n < 10) × (self.old.length < 5041) }
+        ensures { Put self.old.bytes self.old.length (digit n ∷ []) self.new.bytes self.new.length }
+    {
+        self.bytes[self.length] = ascii(n);
+        self.length += 1;
+    }
+
+    // A number in decimal.
+    #[tactic(auto, using(crate::proofs::Decimal::decimal_filled, crate::proofs::Decimal::decimal_longer))]
+    pub(crate) fn put_number(&mut self, n: u32)
+        requires { self.old.length + length (decimal n) ≤ 5041 }
+        ensures { Put self.old.bytes self.old.length (decimal n) self.new.bytes self.new.length }
+    {
+        if n < 10 {
+            return self.put_digit(n);
+        }
+        self.put_number(n / 10);
+        self.put_digit(n % 10);
+    }
 }

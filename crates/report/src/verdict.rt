@@ -1,14 +1,12 @@
 // The verdict of an atom by the lines of a log.
-ghost use Rattle.std.specs.Prelude.{◌+◌, ◌*◌, ◌≤◌, ◌≡◌, length};
+ghost use Rattle.std.specs.Prelude.{◌*◌, ◌≡◌};
 ghost use Rattle.logic.specs.Tests.{isnt};
 ghost use Rattle.logic.specs.Reading.{tagged_by};
 ghost use Rattle.logic.specs.Theory.{atom};
 ghost use Rattle.logic.specs.Verdict.{first_fit, verdict_by};
 ghost use Rattle.standing.specs.Marks.{marked};
 ghost use Rattle.report.specs.Text.{meant, word_of};
-ghost use Rattle.report.specs.Printing.{Put};
 
-use crate::text::put;
 use standing::marks::{has_line, is_marked};
 use table::format::Literal;
 use values::both;
@@ -58,22 +56,23 @@ pub fn verdict_of(marks: &[u8], supported: &[u8], q: Literal) -> Verdict
     let unopposed = has_line(marks, n, 3);
     let clash = both(proved, opposed);
     let split = both(refuted, unopposed);
-    let for_it = is_marked(supported, q.0 as usize);
-    let against_it = is_marked(supported, n.0 as usize);
+    let for_it = is_marked(supported, usize::from(q.0));
+    let against_it = is_marked(supported, usize::from(n.0));
     let idle = both(split, both(!for_it, !against_it));
     first_fit(clash, proved, opposed, idle, split)
 }
 
-pub fn put_verdict(out: &mut [u8], at: usize, v: Verdict) -> usize
-    requires { at + length (word_of (meant v)) ≤ length out.old }
-    ensures { Put out.old at (word_of (meant v)) out.new result }
+// Fixed bytes, as document 01 names the form; an `impl Display` would need a formatter over the sheet's fixed bytes.
+#[tactic(auto, unfolding(crate::specs::Text::meant, crate::specs::Text::word_of))]
+pub fn word(v: Verdict) -> &'static [u8]
+    ensures { result.now ≡ word_of (meant v) }
 {
     match v {
-        Verdict::Clash => put(out, at, b"clash"),
-        Verdict::Go => put(out, at, b"go"),
-        Verdict::Hold => put(out, at, b"hold"),
-        Verdict::Idle => put(out, at, b"idle"),
-        Verdict::Split => put(out, at, b"split"),
-        Verdict::Open => put(out, at, b"open"),
+        Verdict::Clash => b"clash",
+        Verdict::Go => b"go",
+        Verdict::Hold => b"hold",
+        Verdict::Idle => b"idle",
+        Verdict::Split => b"split",
+        Verdict::Open => b"open",
     }
 }

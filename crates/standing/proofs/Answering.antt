@@ -1,33 +1,28 @@
 -- The standing by the marks of a log is the one by its lines, and the numbers of each answer. Assumes nothing.
-use Prim.Native.Nat.{ℕ, ◌+◌, ◌*◌, ◌≤◌, ◌<◌}
+use Prim.Native.Nat.{ℕ, ◌+◌, ◌*◌, ◌<◌}
 use native.Mathlib.Omega.{arith}
 use mathlib.Core.Path.{◌≡◌, sym, ◌∙◌, ap, ap₂}
 use mathlib.Core.List.{List}
-use lib.Dec.{T, ltb, ltb→lt, lt→ltb}
+use lib.Dec.{T}
 use Rattle.logic.specs.Tests.{member}
 use Rattle.logic.specs.Theory.{body_of}
 use Rattle.logic.specs.Inference.{all_have, one_has}
 use Rattle.logic.specs.System.{held}
 use Rattle.logic.specs.Reading.{tagged_by}
 use Rattle.logic.specs.Standing.{first_fit}
-use Rattle.logic.proofs.Tests.{cond_false, cond_true}
 use Rattle.logic.proofs.Bodies.{all_same, one_same}
 use Rattle.table.specs.declared.format.Sizes.{Sizes}
 use Rattle.table.specs.declared.judge.Refusal.{Refusal}
-use Rattle.table.specs.declared.judge.Refusal.TheVariants.{OutOfRange}
-use Rattle.table.specs.declared.judge.Judgement.{Judgement}
-use Rattle.table.specs.declared.judge.Judgement.TheVariants as judgement
 use Rattle.table.specs.declared.edition.Edition.{Edition}
 use Rattle.table.specs.Editions.{layout_of}
 use Rattle.table.specs.Format.{theory_in, theory_of}
 use Rattle.table.specs.Refusals.{judgement_of, Legal}
 use Rattle.table.proofs.Legal.{body_entry, limited, literal_below, ranged, theory_read}
 use Rattle.standing.specs.declared.answer.Standing.{Standing}
-use Rattle.standing.specs.declared.answer.StandingAnswer.{StandingAnswer}
-use Rattle.standing.specs.declared.answer.StandingAnswer.TheVariants.{Refused, Stands}
+use Rattle.std.specs.Prelude.{Result, Ok}
 use Rattle.standing.specs.Marks.{marked, Marked}
 use Rattle.standing.proofs.Marking.{marked_held}
-use Rattle.standing.specs.Answers.{meant, numbers_of, standing_numbers, standing_in, answer_with, standing_of, standing_by}
+use Rattle.standing.specs.Answers.{numbers_of, standing_in, answer_with, standing_of, standing_by}
 
 module _ (b : List ℕ) (s : Sizes) (e : Legal b s) (r : ℕ) where
   -- an antecedent's lines are below 4,096
@@ -46,24 +41,9 @@ module _ (b : List ℕ) (s : Sizes) (e : Legal b s) (r : ℕ) where
       line : (a t : ℕ) → T (member a (body_of (theory_in b s) r)) → t < 4 → marked marks (4 * a + t) ≡ held log (4 * a + t)
       line a t m h = marked_held log marks f (4 * a + t) (omega (arith, antecedent_small a m))
 
-  -- an accepted table
-  pub rule_stands : (log : List ℕ) (x : Standing) → r < s.rules → meant x ≡ standing_in (theory_in b s) r log
-      → numbers_of (Stands x) ≡ answer_with (judgement.Accepted s) (theory_in b s) r log
-  unfolding numbers_of answer_with
-  rule_stands log x h f = ap standing_numbers f ∙ sym (cond_true (ltb r s.rules) _ _ (lt→ltb _ _ h))
-
-  pub rule_refused : (log : List ℕ) → s.rules ≤ r → numbers_of (Refused OutOfRange) ≡ answer_with (judgement.Accepted s) (theory_in b s) r log
-  unfolding numbers_of answer_with
-  rule_refused log h = sym (cond_false (ltb r s.rules) _ _ (λ t. let l : r < s.rules = ltb→lt _ _ t in absurd (omega arith)))
-
 -- the answer by the judgement, and by the layout that was taken
-pub answer_accepted : (d : Edition) (b : List ℕ) (r : ℕ) (log : List ℕ) (x : StandingAnswer) {l : List ℕ} {j : Judgement} {s : Sizes} → j ≡ judgement_of d b
-    → j ≡ judgement.Accepted s → l ≡ layout_of d b → numbers_of x ≡ answer_with (judgement.Accepted s) (theory_in l s) r log → numbers_of x ≡ standing_of d b r log
-answer_accepted d b r log x {s = s} e f h g =
-    g ∙ ap (λ k. answer_with (judgement.Accepted s) (theory_in k s) r log) h
-    ∙ ap (λ z. answer_with (judgement.Accepted s) z r log) (theory_read d b s (sym e ∙ f)) ∙ ap (λ j. answer_with j (theory_of d b) r log) (sym f ∙ e)
-
-pub answer_refused : (d : Edition) (b : List ℕ) (r : ℕ) (log : List ℕ) {j : Judgement} {n : Refusal} → j ≡ judgement_of d b → j ≡ judgement.Refused n
-    → numbers_of (Refused n) ≡ standing_of d b r log
-unfolding numbers_of answer_with
-answer_refused d b r log e f = ap (λ j. answer_with j (theory_of d b) r log) (sym f ∙ e)
+pub answer_accepted : (d : Edition) (b : List ℕ) (r : ℕ) (log : List ℕ) (x : Result Standing Refusal) {l : List ℕ} {s : Sizes} → judgement_of d b ≡ Ok s
+    → l ≡ layout_of d b → numbers_of x ≡ answer_with (Ok s) (theory_in l s) r log → numbers_of x ≡ standing_of d b r log
+answer_accepted d b r log x {s = s} e h g =
+    g ∙ ap (λ k. answer_with (Ok s) (theory_in k s) r log) h
+    ∙ ap (λ z. answer_with (Ok s) z r log) (theory_read d b s e) ∙ ap (λ j. answer_with j (theory_of d b) r log) (sym e)

@@ -5,12 +5,12 @@ use mathlib.Core.Path.{◌≡◌, refl, sym, ◌∙◌, ap, subst}
 use mathlib.Core.Logic.{⊎_elim}
 use mathlib.Core.Bool.{Bool, true, false, cond}
 use mathlib.Core.List.{List, [], ◌∷◌, ◌++◌}
-use lib.Dec.{T, ltb, ltb→lt, lt→ltb, eqb, eqb→eq}
+use lib.Dec.{T, eqb, eqb→eq}
 use lib.ListN.{length, get_or, set, take, replicate, length-replicate, get_or-replicate, get_or-eq_default}
 use lib.Seq.{take-suc, take_all, get_or-set_same, get_or-set_other}
 use Rattle.logic.specs.Tests.{◌and◌, ◌or◌, some, member, weigh}
 use Rattle.logic.specs.System.{held}
-use Rattle.logic.proofs.Tests.{and_intro, and_left, and_right, and_true, cond_false, cond_true, eq→eqb, of_false, of_true, some_next, test_cases, test_eq}
+use Rattle.logic.proofs.Tests.{and_intro, and_left, and_right, and_true, cond_false, cond_true, eq→eqb, some_next, test_cases, test_eq}
 use Rattle.logic.proofs.Lists.{member_more, member_nil}
 use Rattle.logic.proofs.Sums.{weigh_false}
 use Rattle.standing.specs.Marks.{marked, MarkedBy, Marked, MarkedToo}
@@ -32,14 +32,6 @@ marked_held log marks = marked_by (held log)
 pub unmarked_past : (m : List ℕ) (x : ℕ) → length m ≤ x → false ≡ marked m x
 unfolding marked
 unmarked_past m x h = sym (ap (λ z. eqb z 1) (get_or-eq_default m 0 h))
-
--- by what is tested: the number is within the marks, and the test says so
-module _ (x n : ℕ) (test : Bool) {b : Bool} (e : b ≡ (ltb x n and test)) where
-  pub test_passed : b ≡ true → (x < n) × T test
-  test_passed f = let t = of_true _ (sym e ∙ f) in (ltb→lt x n (and_left _ _ t), and_right (ltb x n) test t)
-
-  pub test_failed : b ≡ false → x < n → T test → ⊥
-  test_failed f h t = of_false _ (sym e ∙ f) (and_intro _ _ (lt→ltb x n h) t)
 
 -- a number is marked, or passed over
 pub mark_set : (m : List ℕ) (x : ℕ) (test : Bool) → x < length m → T test → MarkedToo x test m (set m x 1)

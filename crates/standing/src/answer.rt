@@ -5,7 +5,7 @@ ghost use Rattle.standing.specs.Answers.{meant, numbers_of};
 
 use table::judge::Refusal;
 
-#[derive(Clone, Copy)]
+#[derive(Clone, Copy, PartialEq, Eq)]
 pub enum Standing {
     // All antecedents have +∂.
     Firing,
@@ -29,22 +29,17 @@ pub fn first_fit(firing: bool, out: bool) -> Standing
     Standing::Waiting
 }
 
-impl Standing {
-    pub fn number(self) -> u32
-        ensures { result ≡ standing_number (meant self) }
-    {
-        match self {
+impl From<Standing> for u32 {
+    ghost from_gives = { λ how n. n ≡ standing_number (meant how) };
+
+    #[tactic(auto, unfolding(crate::specs::Answers::meant, logic::specs::Standing::standing_number))]
+    fn from(how: Standing) -> u32 {
+        match how {
             Standing::Firing => 0,
             Standing::Out => 1,
             Standing::Waiting => 2,
         }
     }
-}
-
-#[derive(Clone, Copy)]
-pub enum StandingAnswer {
-    Refused(Refusal),
-    Stands(Standing),
 }
 
 // An answer in numbers. A console written in C reads it as it stands.
@@ -57,18 +52,19 @@ pub struct StandingNumbers {
     pub standing: u32,
 }
 
-impl StandingAnswer {
-    pub fn numbers(self) -> StandingNumbers
-        ensures { result ≡ numbers_of self }
-    {
-        match self {
-            StandingAnswer::Refused(why) => StandingNumbers {
-                refused: why.number() as u32,
-                standing: 0,
-            },
-            StandingAnswer::Stands(how) => StandingNumbers {
+impl From<Result<Standing, Refusal>> for StandingNumbers {
+    ghost from_gives = { λ answer numbers. numbers ≡ numbers_of answer };
+
+    #[tactic(auto, unfolding(crate::specs::Answers::numbers_of))]
+    fn from(answer: Result<Standing, Refusal>) -> StandingNumbers {
+        match answer {
+            Ok(how) => StandingNumbers {
                 refused: 0,
-                standing: how.number(),
+                standing: u32::from(how),
+            },
+            Err(why) => StandingNumbers {
+                refused: u32::from(why),
+                standing: 0,
             },
         }
     }

@@ -6,39 +6,20 @@ use native.Mathlib.Numerals.{add-one}
 use native.Mathlib.Omega.{arith}
 use mathlib.Core.Path.{◌≡◌, refl, sym, ◌∙◌, ap, subst}
 use mathlib.Core.Logic.{⊎_elim}
-use mathlib.Core.Bool.{Bool, true, false}
+use mathlib.Core.Bool.{Bool}
 use mathlib.Core.List.{List, [], ◌∷◌, ◌++◌}
 use lib.Dec.{T, eqb, eqb→eq, ltb, ltb→lt, lt→ltb}
 use lib.ListN.{length, get_or, take, drop, set, length-set, take-append-drop}
-use lib.Seq.{take-suc, take-take, take-set-le, take-suc-set, length-take-le, get_or-set_same, get_or-set_other}
+use lib.Seq.{take-suc, take-take, length-take-le, get_or-set_same, get_or-set_other}
 use Rattle.logic.specs.Tests.{◌and◌, ◌or◌, member, distinct, total, count_below}
 use Rattle.logic.specs.Theory.{Theory}
-use Rattle.logic.proofs.Tests.{test_cases, test_eq, of_true, of_false, cond_true, cond_false, at_most, eq→eqb, and_intro, and_left, and_right, or_left, or_right, or_elim, lt_suc_cases}
+use Rattle.logic.proofs.Tests.{test_cases, test_eq, at_most, eq→eqb, and_intro, and_left, and_right, or_left, or_right, or_elim, lt_suc_cases}
 use Rattle.logic.proofs.Lists.{member_nil, member_left, member_last, member_snoc, distinct_left, distinct_apart}
 use Rattle.logic.proofs.Sums.{weigh_true, weigh_false}
 use Rattle.logic.proofs.Pigeon.{count_le}
 use Rattle.table.specs.Pairs.{PairsInOrder}
 use Rattle.table.specs.Release.{removed_by, Runs, Zeros, Queued, Pushed}
 use Rattle.table.proofs.Kahn.{pushed, pushed_in, pushed_last, pushed_of, pushed_once, told_ext, step_waits, step_room, step}
-
--- a push, and none
-pub push_more : (t : Bool) (rule : ℕ) (q : List ℕ) (end : ℕ) → t ≡ true → end < length q → Pushed t rule q end (set q end rule) (end + 1)
-push_more t rule q end e h =
-    record {
-      grown = rw add-one (take-suc-set q end rule h) ∙ sym (cond_true t _ _ (of_true t e));
-      kept = λ k l. take-set-le k q end rule l;
-      more = omega arith;
-      most = omega arith;
-    }
-
-pub push_none : (t : Bool) (rule : ℕ) (q : List ℕ) (end : ℕ) → t ≡ false → Pushed t rule q end q end
-push_none t rule q end e =
-    record {
-      grown = sym (cond_false t _ _ (of_false t e));
-      kept = λ k l. refl;
-      more = omega arith;
-      most = omega arith;
-    }
 
 -- a queue of the rules that wait for nothing, rule by rule
 pub zeros_none : (degree q : List ℕ) → Zeros 0 degree (take 0 q)
@@ -139,11 +120,6 @@ taken_in q next end h l =
 pub taken_small : (d : Theory) (removed : ℕ → Bool) (degree q : List ℕ) (next end r : ℕ) → PairsInOrder d → Queued d removed degree (take end q)
     → next < end → next < length q → r ≡ get_or q next 0 → r < 1024
 taken_small d removed degree q next end r o k h l e = omega (arith, k.zeros.below (get_or q next 0) (taken_in q next end h l), o.small)
-
--- the whole queue was taken up
-pub queued_all : (d : Theory) (degree q queue : List ℕ) (next end : ℕ) → next ≤ end → end ≤ next → Queued d (removed_by d (take next queue)) degree q
-    → Queued d (removed_by d (take end queue)) degree q
-queued_all d degree q queue next end h l k = subst (λ z. Queued d (removed_by d (take z queue)) degree q) (le_antisymm h l) k
 
 -- the pairs that are removed while a rule r is taken up: those of the rules before it, and its own below i
 abbrev pub told_to : Theory → List ℕ → ℕ → ℕ → ℕ → Bool

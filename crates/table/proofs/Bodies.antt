@@ -6,7 +6,7 @@ use mathlib.Core.Path.{◌≡◌, refl, sym, ◌∙◌, ap, ap₂, subst}
 use borrow.Author.Tests.{le-ltb}
 use mathlib.Core.Logic.{⊎_elim}
 use mathlib.Core.Bool.{false, cond}
-use mathlib.Core.List.{List, [], ◌∷◌, map}
+use mathlib.Core.List.{List, [], ◌∷◌, map, map-map}
 use lib.Dec.{T, ltb, eqb, eqb→eq, ltb→lt, lt→ltb}
 use lib.ListN.{length, take, drop, get_or, length-take, length-drop}
 use lib.Seq.{get_or-take, get_or-drop}
@@ -22,7 +22,7 @@ use Rattle.table.specs.Editions.{layout_of}
 use Rattle.table.specs.Format.{word, span_of, entries_from, entry_at, body_in}
 use Rattle.table.specs.Bodies.{entries_below, entry_byte, body_part, body_bytes, body_literals, words_of, Body}
 use Rattle.table.specs.declared.judge.Refusal.{Refusal}
-use Rattle.table.specs.declared.judge.Judgement.TheVariants.{Accepted, Refused}
+use Rattle.std.specs.Prelude.{Ok, Err}
 use Rattle.table.specs.Refusals.{disorder, judgement_of, Legal}
 use Rattle.table.proofs.Legal.{right_in_lem, legal, whole_length, ranged, body_entry, rule_below}
 use Rattle.table.proofs.Sorted.{before_left, entries_rise}
@@ -59,10 +59,6 @@ part_none b s r h = simp (le-ltb r s.rules h)
 map_same : (f g : ℕ → ℕ) (l : List ℕ) → ((x : ℕ) → T (member x l) → f x ≡ g x) → map f l ≡ map g l
 map_same f g [] e = refl
 map_same f g (x ∷ l) e = ap₂ (λ y k. y ∷ k) (e x (member_here x l)) (map_same f g l (λ y m. e y (member_there y x l m)))
-
-map_map : (f g : ℕ → ℕ) (l : List ℕ) → map f (map g l) ≡ map (λ x. f (g x)) l
-map_map f g [] = refl
-map_map f g (x ∷ l) = ap (λ k. f (g x) ∷ k) (map_map f g l)
 
 -- the words of a part of a file
 pub word_inside : (l : List ℕ) (j : ℕ) → 2 * j + 1 < length l → word l j ≡ get_or l (2 * j) 0 + 256 * get_or l (2 * j + 1) 0
@@ -144,7 +140,7 @@ module _ (b : List ℕ) (s : Sizes) (w : length b ≡ 10 + 4 * span_of s) (o : d
   body_words h =
       ap words_of part ∙ ap (λ n. map (word (take (2 * (z - a)) (drop (2 * k) b))) (upto n)) half
       ∙ map_same _ (λ j. (entry_at b s (a + j)).literal.0) (upto (z - a)) (λ j m. literal j (member_upto (z - a) j m))
-      ∙ sym (map_map (λ i. (entry_at b s i).literal.0) (λ j. a + j) (upto (z - a))) ∙ ap (map (λ i. (entry_at b s i).literal.0)) run
+      ∙ sym (map-map (λ i. (entry_at b s i).literal.0) (λ j. a + j) (upto (z - a))) ∙ ap (map (λ i. (entry_at b s i).literal.0)) run
     where
       k : ℕ
       k = 5 + (span_of s + entries_from s) + a
@@ -171,12 +167,8 @@ module _ (b : List ℕ) (s : Sizes) (w : length b ≡ 10 + 4 * span_of s) (o : d
           part_word b k (z - a) j fits l ∙ ap (word b) (let e : k + j ≡ 5 + span_of s + (entries_from s + (a + j)) = omega arith in e)
           ∙ sym (right_in_lem b s (entries_from s) s.entries (a + j) (omega (arith, last)))
 
--- the layout that was taken has its length
-pub read_length : (e : Edition) (b : List ℕ) (s : Sizes) {k : List ℕ} → judgement_of e b ≡ Accepted s → k ≡ layout_of e b → length k ≡ 10 + 4 * span_of s
-read_length e b s a f = ap length f ∙ whole_length (layout_of e b) s (legal e b s a).whole
-
 -- what is handed back, by the judgement
-pub accepted_body : (e : Edition) (b : List ℕ) (r : ℕ) (s : Sizes) (l : List ℕ) {k : List ℕ} → judgement_of e b ≡ Accepted s → k ≡ layout_of e b → l ≡ body_part k s r
+pub accepted_body : (e : Edition) (b : List ℕ) (r : ℕ) (s : Sizes) (l : List ℕ) {k : List ℕ} → judgement_of e b ≡ Ok s → k ≡ layout_of e b → l ≡ body_part k s r
     → Body e b r l
 unfolding body_bytes body_literals upto
 accepted_body e b r s l {k} a h f =
@@ -198,6 +190,6 @@ accepted_body e b r s l {k} a h f =
         let (i, k, u, _) = body_entry (layout_of e b) s (ranged (layout_of e b) s g.ranges) r q m in
         lt_irrefl r (omega (arith, rule_below (layout_of e b) s (ranged (layout_of e b) s g.ranges) i k))))
 
-pub refused_body : (e : Edition) (b : List ℕ) (r : ℕ) (n : Refusal) → judgement_of e b ≡ Refused n → Body e b r []
+pub refused_body : (e : Edition) (b : List ℕ) (r : ℕ) (n : Refusal) → judgement_of e b ≡ Err n → Body e b r []
 unfolding body_bytes body_literals upto
 refused_body e b r n f = record { bytes = ap (λ j. body_bytes (layout_of e b) j r) (sym f); literals = ap (λ j. body_literals (layout_of e b) j r) (sym f) }

@@ -3,7 +3,7 @@ use Prim.Native.Nat.{ℕ, zero, suc, ◌+◌, ◌*◌, ◌≤◌, ◌<◌}
 use native.Mathlib.Nat.{lt_of_not-le, not-suc-le-zero, zero-lt-suc, mul-one}
 use mathlib.Core.Path.{◌≡◌, refl, sym, ◌∙◌, ap, subst}
 use mathlib.Core.Logic.{⊎_elim}
-use mathlib.Core.Bool.{Bool, true, false, cond, true≢false}
+use mathlib.Core.Bool.{Bool, true, false, cond}
 use mathlib.Core.List.{List}
 use borrow.Author.Tests.{ltb-false, lt-ltb, le-ltb}
 use lib.Dec.{T, ltb, eqb, eqb→eq, lt→ltb, le→leb}
@@ -19,32 +19,22 @@ use Rattle.logic.proofs.Theories.{cyclic_agrees}
 use Rattle.table.specs.declared.format.Sizes.{Sizes}
 use Rattle.table.specs.declared.judge.Refusal.{Refusal}
 use Rattle.table.specs.declared.judge.Refusal.TheVariants.{Truncated, TooLarge, WrongLength, BadKind, OutOfRange, Unsorted, Cyclic}
-use Rattle.table.specs.declared.judge.Judgement.{Judgement}
-use Rattle.table.specs.declared.judge.Judgement.TheVariants.{Accepted, Refused}
+use Rattle.table.specs.Refusals.{Judgement}
+use Rattle.std.specs.Prelude.{Ok, Err}
 use Rattle.table.specs.declared.edition.Edition.{Edition}
 use Rattle.table.specs.Editions.{layout_of, unmarked}
 use Rattle.table.specs.Format.{sizes_of, span_of, left, right, left_in, right_in, facts_from, rules_from, entries_from, pairs_from, entry_at, pair_at, rule_at, body_in, theory_in, theory_of}
 use Rattle.table.specs.Refusals.{truncated, oversize, wrong_length, some_at_least, bad_fact, bad_kind, out_of_range, disorder, cycle, judged, judgement_of, Legal}
 
-is_accepted : Judgement → Bool
-is_accepted (Accepted s) = true
-is_accepted (Refused n) = false
-
-sizes_or : Sizes → Judgement → Sizes
-sizes_or s (Accepted t) = t
-sizes_or s (Refused n) = s
-
 -- a judgement accepts or refuses, and has its sizes
-pub refused_not : {n : Refusal} {s : Sizes} → Refused n ≡ Accepted s → ⊥
-unfolding is_accepted
-refused_not e = true≢false (sym (ap is_accepted e))
+pub refused_not : {n : Refusal} {s : Sizes} → ◌≡◌ {A = Judgement} (Err n) (Ok s) → ⊥
+refused_not e = cc
 
-pub accepted_one : {s t : Sizes} → Accepted s ≡ Accepted t → s ≡ t
-unfolding sizes_or
-accepted_one {s} e = ap (sizes_or s) e
+pub accepted_one : {s t : Sizes} → ◌≡◌ {A = Judgement} (Ok s) (Ok t) → s ≡ t
+accepted_one e = cc
 
 -- a judgement that goes on past a fault
-pub pass : (t : Bool) (n : Refusal) (j : Judgement) (s : Sizes) → cond t (Refused n) j ≡ Accepted s → (t ≡ false) × (j ≡ Accepted s)
+pub pass : (t : Bool) (n : Refusal) (j : Judgement) (s : Sizes) → cond t (Err n) j ≡ Ok s → (t ≡ false) × (j ≡ Ok s)
 pass true n j s e = absurd (refused_not e)
 pass false n j s e = (refl, e)
 
@@ -59,7 +49,7 @@ pub record Passed (e : Edition) (b : List ℕ) (s : Sizes) : Type 0 where
   pub sorted : disorder (layout_of e b) s ≡ false
   pub acyclic : cycle (layout_of e b) s ≡ false
 
-pub passed : (e : Edition) (b : List ℕ) (s : Sizes) → judgement_of e b ≡ Accepted s → Passed e b s
+pub passed : (e : Edition) (b : List ℕ) (s : Sizes) → judgement_of e b ≡ Ok s → Passed e b s
 unfolding judgement_of judged
 passed e b s a =
     let (e1, f1) = pass (truncated e b) Truncated (judged e (layout_of e b) (sizes_of (layout_of e b))) s a in
@@ -68,7 +58,7 @@ passed e b s a =
     let (e4, f4) = pass (bad_kind e (layout_of e b) (sizes_of (layout_of e b))) BadKind _ s f3 in
     let (e5, f5) = pass (out_of_range (layout_of e b) (sizes_of (layout_of e b))) OutOfRange _ s f4 in
     let (e6, f6) = pass (disorder (layout_of e b) (sizes_of (layout_of e b))) Unsorted _ s f5 in
-    let (e7, f7) = pass (cycle (layout_of e b) (sizes_of (layout_of e b))) Cyclic (Accepted (sizes_of (layout_of e b))) s f6 in
+    let (e7, f7) = pass (cycle (layout_of e b) (sizes_of (layout_of e b))) Cyclic (Ok (sizes_of (layout_of e b))) s f6 in
     let r : sizes_of (layout_of e b) ≡ s = accepted_one f7 in
     record {
       whole = e1;
@@ -100,7 +90,7 @@ unfolding bad_kind
 facts_zero e b s k = (or_fails _ _ k).0
 
 -- the layout of an accepted table is legal
-pub legal : (e : Edition) (b : List ℕ) (s : Sizes) → judgement_of e b ≡ Accepted s → Legal (layout_of e b) s
+pub legal : (e : Edition) (b : List ℕ) (s : Sizes) → judgement_of e b ≡ Ok s → Legal (layout_of e b) s
 legal e b s a =
     let p = passed e b s a in
     record {
@@ -114,17 +104,17 @@ legal e b s a =
     }
 
 -- as it was taken from a table that was judged
-pub legal_read : (e : Edition) (b : List ℕ) (s : Sizes) {j : Judgement} {l : List ℕ} → j ≡ judgement_of e b → j ≡ Accepted s → l ≡ layout_of e b → Legal l s
+pub legal_read : (e : Edition) (b : List ℕ) (s : Sizes) {j : Judgement} {l : List ℕ} → j ≡ judgement_of e b → j ≡ Ok s → l ≡ layout_of e b → Legal l s
 legal_read e b s f g h = subst (λ l. Legal l s) (sym h) (legal e b s (sym f ∙ g))
 
 -- and one without a fault is accepted
-pub accepted : (e : Edition) (b : List ℕ) (s : Sizes) → Passed e b s → judgement_of e b ≡ Accepted s
+pub accepted : (e : Edition) (b : List ℕ) (s : Sizes) → Passed e b s → judgement_of e b ≡ Ok s
 unfolding judgement_of judged
 accepted e b s p =
     simp (p.whole, p.read, p.limits, p.length, p.kinds, p.ranges, p.sorted, p.acyclic)
 
 -- what it says, with the sizes that it was judged by
-pub theory_read : (e : Edition) (b : List ℕ) (s : Sizes) → judgement_of e b ≡ Accepted s → theory_in (layout_of e b) s ≡ theory_of e b
+pub theory_read : (e : Edition) (b : List ℕ) (s : Sizes) → judgement_of e b ≡ Ok s → theory_in (layout_of e b) s ≡ theory_of e b
 theory_read e b s a = ap (theory_in (layout_of e b)) (sym (legal e b s a).read)
 
 -- the sizes are within their limits

@@ -1,4 +1,3 @@
-pub mod Editions
 pub mod Reading
 pub mod Sections
 pub mod Joined

@@ -1,39 +1,28 @@
 -- Laws of the format's readers. Assumes nothing.
-use Prim.Native.Nat.{ℕ, zero, suc, ◌+◌, ◌*◌, ◌/◌, ◌≤◌, ◌<◌}
+use Prim.Native.Nat.{ℕ, ◌+◌, ◌*◌, ◌/◌, ◌≤◌, ◌<◌}
 use native.Mathlib.Nat.{le_antisymm}
 use native.Mathlib.Numerals.{add-one}
 use native.Mathlib.Omega.{arith}
 use mathlib.Core.Path.{◌≡◌, refl, sym, ◌∙◌, ap, ap₂}
-use mathlib.Core.Bool.{Bool, false}
+use mathlib.Core.Bool.{Bool, false, cond}
 use mathlib.Core.List.{List}
 use Rattle.logic.specs.Tests.{◌or◌, some}
-use lib.Dec.{leb, ltb, lt→ltb}
-use Rattle.logic.proofs.Tests.{cond_true}
+use lib.Dec.{leb, ltb}
 use Rattle.table.specs.declared.format.Sizes.{Sizes}
-use Rattle.table.specs.declared.format.Kind.TheVariants.{Defeater}
-use Rattle.table.specs.declared.format.Origin.TheVariants.{Console}
-use Rattle.table.specs.Format.{word, span_of, right, right_in, kind_of, origin_of}
-
-pub kind_rest : (n : ℕ) → (n ≡ 0 → ⊥) → (n ≡ 1 → ⊥) → Defeater ≡ kind_of n
-unfolding kind_of
-kind_rest zero a b = absurd (a refl)
-kind_rest (suc zero) a b = absurd (b refl)
-kind_rest (suc (suc n)) a b = refl
-
-pub origin_rest : (n : ℕ) → (n ≡ 0 → ⊥) → (n ≡ 1 → ⊥) → (n ≡ 2 → ⊥) → Console ≡ origin_of n
-unfolding origin_of
-origin_rest zero a b d = absurd (a refl)
-origin_rest (suc zero) a b d = absurd (b refl)
-origin_rest (suc (suc zero)) a b d = absurd (d refl)
-origin_rest (suc (suc (suc n))) a b d = refl
+use Rattle.table.specs.Format.{word, span_of, right, left_in, right_in}
 
 -- a word of the right array, read past a span that is the sizes'
 pub right_at : (b : List ℕ) (s : Sizes) (j span r : ℕ) → span ≡ span_of s → r ≡ word b (5 + span + j) → r ≡ right b s j
 right_at b s j span r e f = f ∙ ap (λ k. word b (5 + k + j)) e
 
-pub right_read : (b : List ℕ) (s : Sizes) (from n i span r : ℕ) → i < n → span ≡ span_of s → r ≡ word b (5 + span + (from + i)) → r ≡ right_in b s from n i
+-- a word of a section of either array, as it is read
+pub left_read : (b : List ℕ) (from n i : ℕ) {r : ℕ} → r ≡ cond (ltb i n) (word b (5 + (from + i))) 0 → r ≡ left_in b from n i
+unfolding left_in
+left_read b from n i e = e
+
+pub right_read : (b : List ℕ) (s : Sizes) (from n i span : ℕ) {r : ℕ} → span ≡ span_of s → r ≡ cond (ltb i n) (word b (5 + span + (from + i))) 0 → r ≡ right_in b s from n i
 unfolding right_in
-right_read b s from n i span r h e f = right_at b s (from + i) span r e f ∙ sym (cond_true (ltb i n) (right b s (from + i)) 0 (lt→ltb i n h))
+right_read b s from n i span e f = f ∙ ap (λ k. cond (ltb i n) (word b (5 + k + (from + i))) 0) e
 
 -- a word within the bytes
 pub half_below : {i n : ℕ} → 2 * i + 2 ≤ n → i < n / 2

@@ -18,18 +18,6 @@ use Rattle.table.specs.Keys.{Key}
 assoc : (a j : ℕ) → 5 + a + j ≡ 5 + (a + j)
 assoc a j = omega arith
 
-pub from_rest : (s : Sizes) (k : ℕ) → (k ≡ 0 → ⊥) → (k ≡ 1 → ⊥) → pairs_from s ≡ section_from s k
-unfolding section_from
-from_rest s zero a b = absurd (a refl)
-from_rest s (suc zero) a b = absurd (b refl)
-from_rest s (suc (suc k)) a b = refl
-
-pub size_rest : (s : Sizes) (k : ℕ) → (k ≡ 0 → ⊥) → (k ≡ 1 → ⊥) → s.pairs ≡ section_size s k
-unfolding section_size
-size_rest s zero a b = absurd (a refl)
-size_rest s (suc zero) a b = absurd (b refl)
-size_rest s (suc (suc k)) a b = refl
-
 -- two keys compare as their words do, the left ones first
 module _ (l m p q : ℕ) {x y : ℕ} (e : x ≡ 65536 * l + p) (f : y ≡ 65536 * m + q) (u : p < 65536) (v : q < 65536) where
   lexical : x < y → T (ltb l m or (eqb l m and ltb p q))

@@ -64,6 +64,12 @@ kind_of zero = Strict
 kind_of (suc zero) = Defeasible
 kind_of (suc (suc n)) = Defeater
 
+-- "A rule has a kind (0 strict, 1 defeasible, 2 defeater)"
+abbrev pub kind_number : Kind → ℕ
+kind_number Strict = 0
+kind_number Defeasible = 1
+kind_number Defeater = 2
+
 -- "0 none, 1 house, 2 tour, 3 console"
 abbrev pub origin_number : Origin → ℕ
 origin_number None = 0

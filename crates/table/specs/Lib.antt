@@ -5,3 +5,4 @@ pub mod Bodies
 pub mod Pairs
 pub mod Release
 pub mod Keys
+pub mod Tables

@@ -1,17 +1,19 @@
 -- Document 01, What the console turns away, with document 02, S-5: each fault as a test, and the lowest that applies.
-use Rattle.std.specs.Prelude.{ℕ, zero, suc, ◌+◌, ◌-◌, ◌*◌, ◌/◌, ◌%◌, ◌≡◌, Bool, false, cond, List, [], ◌∷◌, ltb, leb, eqb, length}
+use Rattle.std.specs.Prelude.{ℕ, zero, suc, ◌+◌, ◌-◌, ◌*◌, ◌/◌, ◌%◌, ◌≡◌, Bool, false, cond, List, [], ◌∷◌, ltb, leb, eqb, length, Result, Ok, Err}
 use Rattle.logic.specs.Tests.{◌and◌, ◌or◌, isnt, every, some}
 use Rattle.logic.specs.Theory.{superior}
 use Rattle.logic.specs.Cycle.{cyclic}
 use Rattle.table.specs.declared.format.Sizes.{Sizes}
 use Rattle.table.specs.declared.judge.Refusal.{Refusal}
 use Rattle.table.specs.declared.judge.Refusal.TheVariants.{Truncated, TooLarge, WrongLength, BadKind, OutOfRange, Unsorted, Cyclic, ShortScratch, ShortLog, HasOrigin, AtomsDiffer, ShortOutput}
-use Rattle.table.specs.declared.judge.Judgement.{Judgement}
-use Rattle.table.specs.declared.judge.Judgement.TheVariants.{Accepted, Refused}
 use Rattle.table.specs.declared.edition.Edition.{Edition}
 use Rattle.table.specs.declared.edition.Edition.TheVariants.{Old, Two}
 use Rattle.table.specs.Editions.{layout_of, unmarked}
 use Rattle.table.specs.Format.{sizes_of, span_of, left, right, facts_from, rules_from, entries_from, pairs_from, theory_in}
+
+-- A judgement: the sizes of what is accepted, or why it is refused.
+abbrev pub Judgement : Type 0
+Judgement = Result Sizes Refusal
 
 -- The number of each refusal.
 abbrev pub number_of : Refusal → ℕ
@@ -103,19 +105,19 @@ cycle b s = cyclic (superior (theory_in b s)) s.rules
 -- "The lowest number that applies anywhere in the table is given.": by the layout and the sizes that were read, then from the first byte on.
 unfoldable pub judged : Edition → List ℕ → Sizes → Judgement
 judged e b s =
-    cond (oversize s) (Refused TooLarge)
-    (cond (wrong_length b s) (Refused WrongLength)
-    (cond (bad_kind e b s) (Refused BadKind)
-    (cond (out_of_range b s) (Refused OutOfRange)
-    (cond (disorder b s) (Refused Unsorted) (cond (cycle b s) (Refused Cyclic) (Accepted s))))))
+    cond (oversize s) (Err TooLarge)
+    (cond (wrong_length b s) (Err WrongLength)
+    (cond (bad_kind e b s) (Err BadKind)
+    (cond (out_of_range b s) (Err OutOfRange)
+    (cond (disorder b s) (Err Unsorted) (cond (cycle b s) (Err Cyclic) (Ok s))))))
 
 unfoldable pub judgement_of : Edition → List ℕ → Judgement
-judgement_of e b = cond (truncated e b) (Refused Truncated) (judged e (layout_of e b) (sizes_of (layout_of e b)))
+judgement_of e b = cond (truncated e b) (Err Truncated) (judged e (layout_of e b) (sizes_of (layout_of e b)))
 
 -- The paper's number of each judgement: 0 where the table is accepted. (The values of one that is accepted are the sizes in it.)
 unfoldable pub refused_by : Judgement → ℕ
-refused_by (Accepted s) = 0
-refused_by (Refused n) = number_of n
+refused_by (Ok s) = 0
+refused_by (Err n) = number_of n
 
 -- the paper's list of faults, 1 to 7, in its order
 abbrev pub faults_in : Edition → List ℕ → Sizes → List Bool

@@ -4,7 +4,7 @@ ghost use Rattle.logic.specs.Tests.{isnt};
 ghost use Rattle.table.specs.declared.edition.Edition.TheVariants.{Two};
 ghost use Rattle.table.specs.Editions.{layout_of, unmarked};
 
-#[derive(Clone, Copy)]
+#[derive(Clone, Copy, PartialEq, Eq)]
 pub enum Edition {
     // 1, the old layout
     Old,
@@ -13,17 +13,15 @@ pub enum Edition {
 }
 
 // Whether there is a first byte, and it is 2.
+#[tactic(auto, unfolding(crate::specs::Editions::unmarked, logic::specs::Tests::isnt))]
 fn begins_with_two(table: &[u8]) -> bool
     ensures { result ≡ isnt (unmarked Two table.now) }
 {
-    if table.len() == 0 {
-        false
-    } else {
-        table[0] == 2
-    }
+    table.first() == Some(&2)
 }
 
 // Whether the file lacks the byte that the edition begins with.
+#[tactic(auto, unfolding(crate::specs::Editions::unmarked, logic::specs::Tests::isnt))]
 pub(crate) fn is_unmarked(table: &[u8], edition: Edition) -> bool
     ensures { result ≡ unmarked edition table.now }
 {
@@ -37,10 +35,14 @@ pub(crate) fn is_unmarked(table: &[u8], edition: Edition) -> bool
 fn after_first(table: &[u8]) -> &[u8]
     ensures { result.now ≡ drop 1 table.now }
 {
-    if table.len() == 0 { table } else { &table[1..] }
+    match table.split_first() {
+        Some((_, rest)) => rest,
+        None => table,
+    }
 }
 
 // The layout of a file: the file itself, or in edition two the bytes after its first.
+#[tactic(auto, unfolding(crate::specs::Editions::layout_of))]
 pub fn layout(table: &[u8], edition: Edition) -> &[u8]
     ensures { result.now ≡ layout_of edition table.now }
 {

@@ -1,11 +1,11 @@
 // Document 01, The table, and document 02, S-5: literals, rules, sizes, and what stands at each place of a file's layout (edition.rt).
 // Every function is total: a reader gives what its definition in specs/Format.antt says for every layout, sizes and index.
-ghost use Rattle.std.specs.Prelude.{◌+◌, ◌*◌, ◌≤◌, ◌<◌, ◌≡◌, length};
+ghost use Rattle.std.specs.Prelude.{◌+◌, ◌*◌, ◌≤◌, ◌<◌, ◌≡◌, cond, ltb, length};
 ghost use Rattle.logic.specs.Theory.{complement, atom};
-ghost use Rattle.table.specs.Format.{word, sizes_of, span_of, left, right, left_in, right_in, kind_of, origin_of, origin_number, fact_at, rule_at, entry_at, pair_at};
+ghost use Rattle.table.specs.Format.{word, sizes_of, span_of, left, right, left_in, right_in, kind_of, kind_number, origin_of, origin_number, fact_at, rule_at, entry_at, pair_at};
 
 // A literal: 2a says that atom a holds, 2a + 1 that it does not.
-#[derive(Clone, Copy)]
+#[derive(Clone, Copy, PartialEq, Eq)]
 pub struct Literal(pub u16);
 
 impl Literal {
@@ -24,15 +24,28 @@ impl Literal {
     }
 }
 
-#[derive(Clone, Copy)]
+#[derive(Clone, Copy, PartialEq, Eq)]
 pub enum Kind {
     Strict,
     Defeasible,
     Defeater,
 }
 
+// The number that document 01 gives it.
+impl From<Kind> for u16 {
+    ghost from_gives = { λ kind n. n ≡ kind_number kind };
+
+    fn from(kind: Kind) -> u16 {
+        match kind {
+            Kind::Strict => 0,
+            Kind::Defeasible => 1,
+            Kind::Defeater => 2,
+        }
+    }
+}
+
 // Whose rule it is.
-#[derive(Clone, Copy)]
+#[derive(Clone, Copy, PartialEq, Eq)]
 pub enum Origin {
     // 0
     None,
@@ -44,12 +57,12 @@ pub enum Origin {
     Console,
 }
 
-impl Origin {
-    // The number that document 02 gives it.
-    pub fn number(self) -> u16
-        ensures { result ≡ origin_number self }
-    {
-        match self {
+// The number that document 02 gives it.
+impl From<Origin> for u16 {
+    ghost from_gives = { λ origin n. n ≡ origin_number origin };
+
+    fn from(origin: Origin) -> u16 {
+        match origin {
             Origin::None => 0,
             Origin::House => 1,
             Origin::Tour => 2,
@@ -119,7 +132,7 @@ impl Sizes {
 fn join(low: u8, high: u8) -> u16
     ensures { result ≡ low + 256 * high }
 {
-    low as u16 + 256 * (high as u16)
+    u16::from_le_bytes([low, high])
 }
 
 // The 16-bit word at an index that is within the layout.
@@ -154,38 +167,29 @@ pub fn read_sizes(layout: &[u8]) -> Sizes
     }
 }
 
-// The i-th of the n words of the left array from a place on, 0 from the n-th on.
-fn left_word(layout: &[u8], from: usize, n: u16, i: usize) -> u16
-    requires { from ≤ 262140 }
-    ensures { result ≡ left_in layout.now from n i }
+// The i-th of the n words from a place on of the array that begins at word `base`, 0 from the n-th on.
+fn section_word(layout: &[u8], base: usize, from: usize, n: u16, i: usize) -> u16
+    requires { (base ≤ 262145) × (from ≤ 262140) }
+    ensures { result ≡ cond (ltb i n) (word layout.now (base + (from + i))) 0 }
 {
     if i < n as usize {
-        word(layout, 5 + (from + i))
+        word(layout, base + (from + i))
     } else {
         0
     }
 }
 
-// The same of the right array.
-fn right_word(layout: &[u8], s: Sizes, from: usize, n: u16, i: usize) -> u16
-    requires { from ≤ 262140 }
-    ensures { result ≡ right_in layout.now s from n i }
-{
-    let span = s.span();
-    if i < n as usize {
-        word(layout, 5 + span + (from + i))
-    } else {
-        0
-    }
-}
+// The readers. Any bytes and any sizes serve, so that the two stay apart here; those of an accepted table are one value (accepted.rt).
 
 // The i-th fact.
 pub fn read_fact(layout: &[u8], s: Sizes, i: usize) -> Literal
     ensures { result ≡ fact_at layout.now s i }
 {
-    Literal(right_word(layout, s, 0, s.facts, i))
+    let right = 5 + s.span();
+    Literal(section_word(layout, right, 0, s.facts, i))
 }
 
+#[tactic(auto, unfolding(crate::specs::Format::kind_of))]
 fn kind_of(n: u16) -> Kind
     ensures { result ≡ kind_of n }
 {
@@ -196,6 +200,7 @@ fn kind_of(n: u16) -> Kind
     }
 }
 
+#[tactic(auto, unfolding(crate::specs::Format::origin_of))]
 fn origin_of(n: u16) -> Origin
     ensures { result ≡ origin_of n }
 {
@@ -209,13 +214,13 @@ fn origin_of(n: u16) -> Origin
 
 // The words of both arrays at one place.
 #[derive(Clone, Copy)]
-struct Words {
-    left: u16,
-    right: u16,
+pub(crate) struct Words {
+    pub left: u16,
+    pub right: u16,
 }
 
 // At place j of a layout that has the bytes its sizes say.
-fn words_within(layout: &[u8], s: Sizes, j: usize) -> Words
+pub(crate) fn words_within(layout: &[u8], s: Sizes, j: usize) -> Words
     requires { (j < span_of s) × (10 + 4 * span_of s ≤ length layout.now) }
     ensures { (result.left ≡ left layout.now j) × (result.right ≡ right layout.now s j) }
 {
@@ -236,8 +241,8 @@ fn both_words(layout: &[u8], s: Sizes, from: usize, n: u16, i: usize) -> Words
             return words_within(layout, s, from + i);
         }
     }
-    let left = left_word(layout, from, n, i);
-    let right = right_word(layout, s, from, n, i);
+    let left = section_word(layout, 5, from, n, i);
+    let right = section_word(layout, 5 + span, from, n, i);
     Words { left, right }
 }
 
@@ -268,7 +273,7 @@ pub fn read_entry(layout: &[u8], s: Sizes, i: usize) -> Entry
     }
 }
 
-fn pair_of(words: Words) -> Pair
+pub(crate) fn pair_of(words: Words) -> Pair
     ensures { (result.stronger ≡ words.left) × (result.weaker ≡ words.right) }
 {
     Pair {
@@ -283,13 +288,4 @@ pub fn read_pair(layout: &[u8], s: Sizes, i: usize) -> Pair
 {
     let from = s.facts as usize + s.rules as usize + s.entries as usize;
     pair_of(both_words(layout, s, from, s.pairs, i))
-}
-
-// The i-th pair of a layout as long as its sizes say, if there is one.
-pub(crate) fn pair_within(layout: &[u8], s: Sizes, i: usize) -> Pair
-    requires { (i < s.pairs) × (length layout.now ≡ 10 + 4 * span_of s) }
-    ensures { result ≡ pair_at layout.now s i }
-{
-    let from = s.facts as usize + s.rules as usize + s.entries as usize;
-    pair_of(words_within(layout, s, from + i))
 }

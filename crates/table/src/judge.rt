@@ -1,17 +1,18 @@
 // Document 01, What the console turns away, with document 02, S-5: the judgement of a table.
-ghost use Rattle.std.specs.Prelude.{◌≡◌};
+ghost use Rattle.std.specs.Prelude.{◌≡◌, false};
 ghost use Rattle.table.specs.Format.{sizes_of};
-ghost use Rattle.table.specs.Refusals.{number_of, judged, Judged};
+ghost use Rattle.table.specs.Refusals.{number_of, oversize, judged, Judged};
 
 use crate::cycle::has_cycle;
 use crate::edition::{Edition, is_unmarked, layout};
 use crate::format::{Sizes, read_sizes};
 use crate::order::unsorted;
 use crate::range::{bad_kind, out_of_range};
+use crate::whole::Layout;
 use values::either;
 
 // The refusals, with document 01's number and word, or document 02's number. Numbers 8, 9 and 12 are of the buffers of a call.
-#[derive(Clone, Copy)]
+#[derive(Clone, Copy, PartialEq, Eq)]
 pub enum Refusal {
     // 1, stub
     Truncated,
@@ -39,12 +40,12 @@ pub enum Refusal {
     ShortOutput,
 }
 
-impl Refusal {
-    // The number that document 01 fixes.
-    pub fn number(self) -> u16
-        ensures { result ≡ number_of self }
-    {
-        match self {
+// The number that document 01 fixes.
+impl From<Refusal> for u32 {
+    ghost from_gives = { λ why n. n ≡ number_of why };
+
+    fn from(why: Refusal) -> u32 {
+        match why {
             Refusal::Truncated => 1,
             Refusal::TooLarge => 2,
             Refusal::WrongLength => 3,
@@ -61,61 +62,68 @@ impl Refusal {
     }
 }
 
-#[derive(Clone, Copy)]
-pub enum Judgement {
-    Accepted(Sizes),
-    Refused(Refusal),
+// Of a layout with few enough atoms, facts, rules, entries and pairs, and with a place for each.
+fn judge_words(layout: Layout, edition: Edition) -> Result<Sizes, Refusal>
+    requires { oversize layout.sizes ≡ false }
+    ensures { result ≡ judged edition layout.entry.bytes.now layout.entry.sizes }
+{
+    if bad_kind(layout, edition) {
+        return Err(Refusal::BadKind);
+    }
+    if out_of_range(layout) {
+        return Err(Refusal::OutOfRange);
+    }
+    if unsorted(layout) {
+        return Err(Refusal::Unsorted);
+    }
+    // No pairs, no cycle.
+    if layout.sizes.pairs == 0 {
+        return Ok(layout.sizes);
+    }
+    if has_cycle(layout) {
+        return Err(Refusal::Cyclic);
+    }
+    Ok(layout.sizes)
 }
 
 // The judgement of a layout that has the five sizes.
-fn judge_layout(layout: &[u8], edition: Edition) -> Judgement
-    ensures { result ≡ judged edition layout.now (sizes_of layout.now) }
+fn judge_layout(bytes: &[u8], edition: Edition) -> Result<Sizes, Refusal>
+    ensures { result ≡ judged edition bytes.now (sizes_of bytes.now) }
 {
-    let s = read_sizes(layout);
+    let sizes = read_sizes(bytes);
     // One of the five sizes above its limit, in three tests: past so many the compiler leaves two passes over the words in frames of their
     // own, and the stack of a run, which is the largest in the cycle test, is smaller (docs/DECISIONS.md).
-    if Sizes::MAX_ATOMS < s.atoms {
-        return Judgement::Refused(Refusal::TooLarge);
+    if Sizes::MAX_ATOMS < sizes.atoms {
+        return Err(Refusal::TooLarge);
     }
-    if either(Sizes::MAX_FACTS < s.facts, Sizes::MAX_RULES < s.rules) {
-        return Judgement::Refused(Refusal::TooLarge);
+    if either(
+        Sizes::MAX_FACTS < sizes.facts,
+        Sizes::MAX_RULES < sizes.rules,
+    ) {
+        return Err(Refusal::TooLarge);
     }
-    if either(Sizes::MAX_ENTRIES < s.entries, Sizes::MAX_PAIRS < s.pairs) {
-        return Judgement::Refused(Refusal::TooLarge);
+    if either(
+        Sizes::MAX_ENTRIES < sizes.entries,
+        Sizes::MAX_PAIRS < sizes.pairs,
+    ) {
+        return Err(Refusal::TooLarge);
     }
-    let expected = 10 + 4 * s.span();
-    if layout.len() != expected {
-        return Judgement::Refused(Refusal::WrongLength);
+    if bytes.len() != 10 + 4 * sizes.span() {
+        return Err(Refusal::WrongLength);
     }
-    if bad_kind(layout, s, edition) {
-        return Judgement::Refused(Refusal::BadKind);
-    }
-    if out_of_range(layout, s) {
-        return Judgement::Refused(Refusal::OutOfRange);
-    }
-    if unsorted(layout, s) {
-        return Judgement::Refused(Refusal::Unsorted);
-    }
-    // No pairs, no cycle.
-    if s.pairs == 0 {
-        return Judgement::Accepted(s);
-    }
-    if has_cycle(layout, s) {
-        return Judgement::Refused(Refusal::Cyclic);
-    }
-    Judgement::Accepted(s)
+    judge_words(Layout { bytes, sizes }, edition)
 }
 
 // The lowest number that applies anywhere in the table, or none.
-pub fn judge(table: &[u8], edition: Edition) -> Judgement
+pub fn judge(table: &[u8], edition: Edition) -> Result<Sizes, Refusal>
     ensures { Judged edition table.now result }
 {
     if is_unmarked(table, edition) {
-        return Judgement::Refused(Refusal::Truncated);
+        return Err(Refusal::Truncated);
     }
     let l = layout(table, edition);
     if l.len() < 10 {
-        return Judgement::Refused(Refusal::Truncated);
+        return Err(Refusal::Truncated);
     }
     judge_layout(l, edition)
 }

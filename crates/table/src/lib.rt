@@ -2,6 +2,7 @@
 // says.
 #![tactic(auto)]
 
+pub mod accepted;
 pub mod body;
 mod cycle;
 pub mod edition;
@@ -9,3 +10,4 @@ pub mod format;
 pub mod judge;
 mod order;
 mod range;
+mod whole;

@@ -5,8 +5,10 @@ ghost use Rattle.table.specs.Refusals.{bad_fact, section_from, section_size, dis
 ghost use Rattle.table.specs.Keys.{Key};
 
 use crate::format::{Sizes, word_within};
+use crate::whole::Layout;
 
-// The ordered sections: 0 the facts, 1 the entries, 2 the pairs.
+// The ordered sections: 0 the facts, 1 the entries, 2 the pairs. They are numbers, as in the definition (`disorder`).
+#[tactic(auto, unfolding(crate::specs::Refusals::section_from))]
 fn section_from(s: Sizes, k: u8) -> usize
     ensures { (result ≡ section_from s k) × (result ≤ 196605) }
 {
@@ -17,6 +19,7 @@ fn section_from(s: Sizes, k: u8) -> usize
     }
 }
 
+#[tactic(auto, unfolding(crate::specs::Refusals::section_size))]
 fn section_size(s: Sizes, k: u8) -> u16
     ensures { result ≡ section_size s k }
 {
@@ -49,29 +52,26 @@ fn first_key(layout: &[u8], left: usize, right: usize, n: usize) -> u32
 }
 
 // 6: the first entry out of order ends the whole inspection. Kinds are ruled out before.
-pub fn unsorted(layout: &[u8], s: Sizes) -> bool
-    requires { (length layout.now ≡ 10 + 4 * span_of s) × (bad_fact layout.now s ≡ false) }
-    ensures { result ≡ disorder layout.now s }
+pub fn unsorted(layout: Layout) -> bool
+    requires { bad_fact layout.bytes.now layout.sizes ≡ false }
+    ensures { result ≡ disorder layout.entry.bytes.now layout.entry.sizes }
 {
+    let s = layout.sizes;
     let span = s.span();
     let mut found = false;
-    let mut k: u8 = 0;
-    'inspection: while k < 3 {
+    'inspection: for k in 0..3u8 {
         let n = section_size(s, k) as usize;
         let left = 5 + section_from(s, k);
         let right = left + span;
-        let mut last = first_key(layout, left, right, n);
-        let mut i: usize = 1;
-        while i < n {
-            let next = key(layout, left, right, i);
+        let mut last = first_key(layout.bytes, left, right, n);
+        for i in 1..n {
+            let next = key(layout.bytes, left, right, i);
             if next <= last {
                 found = true;
                 break 'inspection;
             }
             last = next;
-            i += 1;
         }
-        k += 1;
     }
     found
 }

@@ -1,30 +1,29 @@
 // Faults 4 and 5 of document 01: words that are too large for their place.
 ghost use Rattle.std.specs.Prelude.{◌+◌, ◌*◌, ◌≤◌, ◌≡◌, false, leb, length};
 ghost use Rattle.logic.specs.Tests.{some};
-ghost use Rattle.table.specs.Format.{word, span_of};
+ghost use Rattle.table.specs.Format.{word};
 ghost use Rattle.table.specs.Refusals.{oversize, bad_left, bad_rule, bad_kind, out_of_range};
 
 use crate::edition::Edition;
-use crate::format::{Sizes, word_within};
+use crate::format::word_within;
+use crate::whole::Layout;
 use values::either;
 
 // Whether one of n words within the layout is at least the limit. All are looked at: the loop has no other way out.
-fn any_at_least(layout: &[u8], base: usize, from: usize, n: u16, limit: u16) -> bool
-    requires { (base ≤ 262145) × (from ≤ 262140) × (2 * (base + (from + n)) ≤ length layout.now) }
-    ensures { result ≡ some n (λ i. leb limit (word layout.now (base + (from + i)))) }
+fn any_at_least(layout: Layout, base: usize, from: usize, n: u16, limit: u16) -> bool
+    requires { (base ≤ 262145) × (from ≤ 262140) × (2 * (base + (from + n)) ≤ length layout.bytes.now) }
+    ensures { result ≡ some n (λ i. leb limit (word layout.entry.bytes.now (base + (from + i)))) }
 {
-    let end = n as usize;
     let mut found = false;
-    let mut i: usize = 0;
-    while i < end {
-        let w = word_within(layout, base + (from + i));
+    for i in 0..n as usize {
+        let w = word_within(layout.bytes, base + (from + i));
         found = either(found, limit <= w);
-        i += 1;
     }
     found
 }
 
 // Whether a rule's left word has no kind, or no origin, that the edition knows.
+#[tactic(auto, unfolding(crate::specs::Refusals::bad_left))]
 fn bad_left(edition: Edition, w: u16) -> bool
     ensures { result ≡ bad_left edition w }
 {
@@ -35,36 +34,32 @@ fn bad_left(edition: Edition, w: u16) -> bool
 }
 
 // Whether one of the rules has such a left word. All are looked at.
-fn bad_rule(layout: &[u8], s: Sizes, edition: Edition) -> bool
-    requires { length layout.now ≡ 10 + 4 * span_of s }
-    ensures { result ≡ bad_rule edition layout.now s }
+fn bad_rule(layout: Layout, edition: Edition) -> bool
+    ensures { result ≡ bad_rule edition layout.entry.bytes.now layout.entry.sizes }
 {
-    let from = s.facts as usize;
-    let end = s.rules as usize;
+    let from = layout.sizes.facts as usize;
     let mut found = false;
-    let mut i: usize = 0;
-    while i < end {
-        let w = word_within(layout, 5 + (from + i));
+    for i in 0..layout.sizes.rules as usize {
+        let w = word_within(layout.bytes, 5 + (from + i));
         found = either(found, bad_left(edition, w));
-        i += 1;
     }
     found
 }
 
 // 4: a fact's left word that is not 0, or a rule's with no kind or no origin.
-pub fn bad_kind(layout: &[u8], s: Sizes, edition: Edition) -> bool
-    requires { length layout.now ≡ 10 + 4 * span_of s }
-    ensures { result ≡ bad_kind edition layout.now s }
+pub fn bad_kind(layout: Layout, edition: Edition) -> bool
+    ensures { result ≡ bad_kind edition layout.entry.bytes.now layout.entry.sizes }
 {
-    let facts = any_at_least(layout, 5, 0, s.facts, 1);
-    either(facts, bad_rule(layout, s, edition))
+    let facts = any_at_least(layout, 5, 0, layout.sizes.facts, 1);
+    either(facts, bad_rule(layout, edition))
 }
 
 // 5: a literal not below 2A, or a rule number not below N.
-pub fn out_of_range(layout: &[u8], s: Sizes) -> bool
-    requires { (oversize s ≡ false) × (length layout.now ≡ 10 + 4 * span_of s) }
-    ensures { result ≡ out_of_range layout.now s }
+pub fn out_of_range(layout: Layout) -> bool
+    requires { oversize layout.sizes ≡ false }
+    ensures { result ≡ out_of_range layout.entry.bytes.now layout.entry.sizes }
 {
+    let s = layout.sizes;
     let literals = 2 * s.atoms;
     let rules = s.rules;
     let right = 5 + s.span();

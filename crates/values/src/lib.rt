@@ -7,13 +7,13 @@ ghost use Rattle.logic.specs.Tests.{◌and◌, ◌or◌, weigh};
 pub fn both(a: bool, b: bool) -> bool
     ensures { result ≡ (a and b) }
 {
-    if a { b } else { false }
+    a && b
 }
 
 pub fn either(a: bool, b: bool) -> bool
     ensures { result ≡ (a or b) }
 {
-    if a { true } else { b }
+    a || b
 }
 
 // A count, with one more if the test says so.
@@ -21,14 +21,7 @@ pub fn add_if(n: usize, test: bool) -> usize
     requires { n < 65535 }
     ensures { result ≡ n + weigh test 1 }
 {
-    if test { n + 1 } else { n }
-}
-
-// A word as an index.
-pub fn wide(n: u16) -> usize
-    ensures { result ≡ n }
-{
-    n as usize
+    n + usize::from(test)
 }
 
 // The first n words of one slice into another.
@@ -36,9 +29,5 @@ pub fn copy_words(from: &[u16], n: usize, to: &mut [u16])
     requires { (n ≤ length from.now) × (n ≤ length to.old) }
     ensures { to.new ≡ take n from.now ++ drop n to.old }
 {
-    let mut i: usize = 0;
-    while i < n {
-        to[i] = from[i];
-        i += 1;
-    }
+    to[..n].copy_from_slice(&from[..n]);
 }

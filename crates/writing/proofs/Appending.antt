@@ -1,38 +1,24 @@
 -- Words after words in an output. Assumes nothing.
 use Prim.Native.Nat.{ℕ, suc, ◌+◌, ◌*◌, ◌/◌, ◌%◌, ◌≤◌, ◌<◌}
-use native.Mathlib.Nat.{add-zero, zero-add, le_antisymm}
+use native.Mathlib.Nat.{add-zero, zero-add}
 use native.Mathlib.Numerals.{add-one}
 use native.Mathlib.Omega.{arith}
 use mathlib.Core.Path.{◌≡◌, refl, sym, ◌∙◌, ap, ap₂, subst}
 use mathlib.Core.List.{List, [], ◌∷◌, ◌++◌, map, map-append}
 use lib.ListN.{length, length-map, drop, set}
-use lib.Seq.{sets, set_out, length-sets, sets-eq}
+use lib.Seq.{sets, sets-eq}
 use Rattle.logic.specs.Tests.{upto}
 use Rattle.logic.proofs.Lists.{length_upto}
 use Rattle.table.specs.declared.format.Rule.{Rule}
-use Rattle.table.specs.declared.format.Origin.{Origin}
-use Rattle.table.specs.declared.format.Origin.TheVariants.{None, House, Tour, Console}
-use Rattle.table.specs.declared.format.Kind.{Kind}
-use Rattle.table.specs.declared.format.Kind.TheVariants.{Strict, Defeasible, Defeater}
 use Rattle.table.specs.declared.format.Sizes.{Sizes}
 use Rattle.table.specs.declared.edition.Edition.{Edition}
 use Rattle.table.specs.declared.edition.Edition.TheVariants.{Old, Two}
-use Rattle.table.specs.Format.{origin_number}
 use Rattle.table.specs.Refusals.{Legal}
 use Rattle.table.proofs.Legal.{limited}
-use Rattle.files.specs.Contents.{Row, kind_number, rule_row, bytes_of, marked}
+use Rattle.files.specs.Contents.{Row, rule_row, bytes_of, marked}
 use Rattle.files.proofs.Reading.{bytes_length}
 use Rattle.writing.specs.declared.columns.Side.{Side}
 use Rattle.writing.specs.Columns.{word_in, with_words, column}
-
--- a store past the end changes nothing
-pub byte_past : (out : List ℕ) (at byte : ℕ) → length out ≤ at → out ≡ set out at byte
-byte_past out at byte h = sym (set_out out at byte h)
-
--- the two bytes of a word
-pub two_bytes : (out : List ℕ) (at w : ℕ) {a b : List ℕ} → a ≡ set out at (w % 256) → b ≡ set a (at + 1) (w / 256) → b ≡ with_words out at (w ∷ [])
-unfolding bytes_of
-two_bytes out at w e f = f ∙ ap₂ (λ l k. set l k (w / 256)) e (add-one at)
 
 -- stores after stores
 sets_more : (l : List ℕ) (i : ℕ) (xs ys : List ℕ) → sets (sets l i xs) (i + length xs) ys ≡ sets l i (xs ++ ys)
@@ -56,9 +42,6 @@ pub words_then : (out : List ℕ) (at : ℕ) (xs ys : List ℕ) {a b : List ℕ}
     → b ≡ with_words out at (xs ++ ys)
 words_then out at xs ys e f g = g ∙ ap₂ (λ l k. with_words l k ys) e f ∙ words_more out at xs ys
 
-pub words_length : (out : List ℕ) (at : ℕ) (ws : List ℕ) {a : List ℕ} → a ≡ with_words out at ws → length a ≡ length out
-words_length out at ws e = ap length e ∙ length-sets out at (bytes_of ws)
-
 pub column_length : (side : Side) (row : ℕ → Row) (n : ℕ) → length (column side row n) ≡ n
 column_length side row n = length-map (upto n) (λ i. word_in side (row i)) ∙ length_upto n
 
@@ -79,21 +62,6 @@ module _ (side : Side) (row : ℕ → Row) (out : List ℕ) (at : ℕ) where
       words_then out at (column side row i) (w ∷ []) e (ap (λ k. at + 2 * k) (sym (column_length side row i))) g
       ∙ ap (λ x. with_words out at (column side row i ++ (x ∷ []))) f ∙ ap (with_words out at) (sym (column_suc side row i))
 
-  pub column_end : (i n : ℕ) {a : List ℕ} → i ≤ n → n ≤ i → a ≡ with_words out at (column side row i) → a ≡ with_words out at (column side row n)
-  column_end i n h k e = e ∙ ap (λ j. with_words out at (column side row j)) (le_antisymm h k)
-
--- a rule's left word is small
-pub origin_small : (o : Origin) → origin_number o ≤ 3
-origin_small None = omega arith
-origin_small House = omega arith
-origin_small Tour = omega arith
-origin_small Console = omega arith
-
-pub kind_small : (k : Kind) → kind_number k ≤ 2
-kind_small Strict = omega arith
-kind_small Defeasible = omega arith
-kind_small Defeater = omega arith
-
 -- a rule's number, where the rules are numbered from `first` on
 pub number_fits : (b : List ℕ) (s : Sizes) (first : ℕ) {n r : ℕ} → Legal b s → first ≤ 1024 → n < s.rules → r ≡ n → first + r < 65536
 number_fits b s first l f h e = omega (arith, (limited s l.limits).rules)
@@ -107,17 +75,8 @@ unfolding marked
 marked_append Old bytes = refl
 marked_append Two bytes = refl
 
--- what stands before the layout
+-- what stands before the layout, and the layout after it
 module _ (e : Edition) (out : List ℕ) where
-  pub begun_old : Old ≡ e → (0 ≡ length (marked e [])) × (out ≡ sets out 0 (marked e []))
-  unfolding marked
-  begun_old h = subst (λ d. (0 ≡ length (marked d [])) × (out ≡ sets out 0 (marked d []))) h (refl, refl)
-
-  pub begun_two : Two ≡ e → {n : ℕ} {out' : List ℕ} → (n ≡ 1) × (out' ≡ set out 0 2) → (n ≡ length (marked e [])) × (out' ≡ sets out 0 (marked e []))
-  unfolding marked
-  begun_two h {n} {out'} w = subst (λ d. (n ≡ length (marked d [])) × (out' ≡ sets out 0 (marked d []))) h w
-
-  -- and the layout after it
   pub begun_then : (bytes : List ℕ) {a b : List ℕ} {n : ℕ} → (n ≡ length (marked e [])) × (a ≡ sets out 0 (marked e [])) → b ≡ sets a n bytes → b ≡ sets out 0 (marked e bytes)
   begun_then bytes (h, k) f =
       f ∙ ap₂ (λ l n. sets l n bytes) k (h ∙ sym (zero-add _)) ∙ sets_more out 0 (marked e []) bytes ∙ ap (sets out 0) (marked_append e bytes)

@@ -48,10 +48,6 @@ module _ (out : List ℕ) (at : ℕ) (test : Bool) (w : ℕ) where
   unfolding weigh
   put_one e g = (g ∙ ap (λ t. with_words out at (one t w)) (sym e), ap (λ t. at + 2 * weigh t 1) (sym e))
 
-  pub put_none : test ≡ false → (out ≡ with_words out at (one test w)) × (at ≡ at + 2 * weigh test 1)
-  unfolding weigh bytes_of
-  put_none e = (ap (λ t. with_words out at (one t w)) (sym e), (let z : at ≡ at + 2 * 0 = omega arith in z) ∙ ap (λ t. at + 2 * weigh t 1) (sym e))
-
 module _ (word : ℕ → ℕ) (out : List ℕ) (at : ℕ) where
   one_word : (test : Bool) (q : ℕ) → one test (word q) ≡ map word (one test q)
   one_word true q = refl

@@ -1,22 +1,14 @@
-// What a call answers that writes a table.
-ghost use Rattle.std.specs.Prelude.{◌≡◌};
-ghost use Rattle.writing.specs.declared.answer.Written.TheVariants.{Refused};
+// What a call answers that writes a table: how many bytes it has, or why it is refused.
+ghost use Rattle.std.specs.Prelude.{◌≡◌, Err};
 ghost use Rattle.writing.specs.Answers.{numbers_of};
 
 use table::judge::Refusal;
 
-#[derive(Clone, Copy)]
-pub enum Written {
-    Refused(Refusal),
-    // how many bytes the table has
-    Bytes(u32),
-}
-
 // "a refusal leaves the output untouched"
-pub fn refuse(refusal: Refusal, out: &mut [u8]) -> Written
-    ensures { (result ≡ Refused refusal) × (out.new ≡ out.old) }
+pub fn refuse(refusal: Refusal, out: &mut [u8]) -> Result<u32, Refusal>
+    ensures { (result ≡ Err refusal) × (out.new ≡ out.old) }
 {
-    Written::Refused(refusal)
+    Err(refusal)
 }
 
 // An answer in numbers. A console written in C reads it as it stands.
@@ -28,16 +20,17 @@ pub struct WrittenNumbers {
     pub bytes: u32,
 }
 
-impl Written {
-    pub fn numbers(self) -> WrittenNumbers
-        ensures { result ≡ numbers_of self }
-    {
-        match self {
-            Written::Refused(why) => WrittenNumbers {
-                refused: why.number() as u32,
+impl From<Result<u32, Refusal>> for WrittenNumbers {
+    ghost from_gives = { λ answer numbers. numbers ≡ numbers_of answer };
+
+    #[tactic(auto, unfolding(crate::specs::Answers::numbers_of))]
+    fn from(answer: Result<u32, Refusal>) -> WrittenNumbers {
+        match answer {
+            Err(why) => WrittenNumbers {
+                refused: u32::from(why),
                 bytes: 0,
             },
-            Written::Bytes(n) => WrittenNumbers {
+            Ok(n) => WrittenNumbers {
                 refused: 0,
                 bytes: n,
             },

@@ -1,15 +1,9 @@
--- `console::fly_run` meets its contract. Assumes nothing.
+-- `console::fly_run` meets its contract.
 use Rattle.console.proofs.Telling.{ran_known, ran_unknown}
 use Rattle.console.proofs.fly_run.Goals as goal
 
-pub returns-in-Known : goal.returns-in-Known
-returns-in-Known c =
-    let args = c.args in
-    ran_known c.told_by.result args.edition c.told_by.ensures args.table.now _ c.in-Known.is args.budget args.log.now _
-    args.scratch.now _ _ _ c.numbers.ensures c.run.ensures
+pub returns-in-Some : goal.returns-in-Some
+returns-in-Some c = let args = c.args in ran_known args.table.now args.budget args.log.now args.scratch.now _ _ c.in-Some.ensures c.from.ensures c.run.ensures
 
-pub returns-in-Unknown : goal.returns-in-Unknown
-returns-in-Unknown c =
-    let args = c.args in
-    ran_unknown c.told_by.result args.edition c.told_by.ensures args.table.now c.in-Unknown.in-Unknown-own.keys2 args.budget args.log.now
-    args.scratch.now _ c.numbers-in-Unknown.ensures
+pub returns-in-None : goal.returns-in-None
+returns-in-None c = let args = c.args in ran_unknown args.table.now args.budget args.log.now args.scratch.now c.in-None.ensures c.from-in-None.ensures

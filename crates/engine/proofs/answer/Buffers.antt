@@ -16,14 +16,14 @@ use Rattle.logic.proofs.Plain.{plain_demands, plain_lines}
 use Rattle.table.specs.declared.format.Sizes.{Sizes}
 use Rattle.table.specs.declared.judge.Refusal.{Refusal}
 use Rattle.table.specs.declared.judge.Refusal.TheVariants.{ShortScratch, ShortLog}
-use Rattle.table.specs.declared.judge.Judgement.TheVariants.{Accepted, Refused}
+use Rattle.std.specs.Prelude.{Ok, Err}
 use Rattle.table.specs.Format.{theory_in}
 use Rattle.table.specs.Refusals.{Legal}
 use Rattle.table.proofs.Legal.{ranged, proper_theory}
 use Rattle.engine.specs.Answers.{with_buffers, run_of, call_judgement}
 
 -- a refused table, whatever is lent
-pub refused_table : (d : Theory) (budget scratch log : ℕ) (n : Refusal) → call_judgement (Refused n) d budget scratch log ≡ Refused n
+pub refused_table : (d : Theory) (budget scratch log : ℕ) (n : Refusal) → call_judgement (Err n) d budget scratch log ≡ Err n
 unfolding with_buffers
 refused_table d budget scratch log n = refl
 
@@ -49,19 +49,19 @@ module _ (b : List ℕ) (s : Sizes) (e : Legal b s) where
     no_line h = subst (λ o. lines o ≤ log) (sym (run_unstarted (plain_system (theory_in b s)) budget h)) (omega arith)
 
     module _ (scratch : ℕ) where
-      pub short_scratch : scratch < 32768 → call_judgement (Accepted s) (theory_in b s) budget scratch log ≡ Refused ShortScratch
+      pub short_scratch : scratch < 32768 → call_judgement (Ok s) (theory_in b s) budget scratch log ≡ Err ShortScratch
       unfolding with_buffers
       short_scratch h = simp (lt-ltb scratch 32768 h)
 
       -- with a scratch that is long enough it is the log that decides
       pub by_log : 32768 ≤ scratch
-          → call_judgement (Accepted s) (theory_in b s) budget scratch log ≡ cond (ltb log (lines (run_of (theory_in b s) budget))) (Refused ShortLog) (Accepted s)
+          → call_judgement (Ok s) (theory_in b s) budget scratch log ≡ cond (ltb log (lines (run_of (theory_in b s) budget))) (Err ShortLog) (Ok s)
       unfolding with_buffers
       by_log h = simp (le-ltb scratch 32768 h)
 
       pub short_log : 32768 ≤ scratch → log < lines (run_of (theory_in b s) budget)
-          → call_judgement (Accepted s) (theory_in b s) budget scratch log ≡ Refused ShortLog
+          → call_judgement (Ok s) (theory_in b s) budget scratch log ≡ Err ShortLog
       short_log h k = by_log h ∙ (simp (lt-ltb log (lines (run_of (theory_in b s) budget)) k))
 
-      pub long_enough : 32768 ≤ scratch → lines (run_of (theory_in b s) budget) ≤ log → call_judgement (Accepted s) (theory_in b s) budget scratch log ≡ Accepted s
+      pub long_enough : 32768 ≤ scratch → lines (run_of (theory_in b s) budget) ≤ log → call_judgement (Ok s) (theory_in b s) budget scratch log ≡ Ok s
       long_enough h k = by_log h ∙ (simp (le-ltb log (lines (run_of (theory_in b s) budget)) k))

@@ -7,29 +7,14 @@ use mathlib.Core.List.{List}
 use lib.Dec.{eqb, eqb→eq}
 use lib.ListN.{length}
 use Rattle.logic.specs.Theory.{Theory}
-use Rattle.table.specs.declared.judge.Refusal.{Refusal}
-use Rattle.table.specs.declared.judge.Judgement.{Judgement}
+use Rattle.table.specs.Refusals.{Judgement}
 use Rattle.table.specs.Refusals.{number_of}
 use Rattle.logic.proofs.Tests.{cond_false}
 use Rattle.table.proofs.Numbers.{number_range, numbered, numbered_back}
-use Rattle.engine.specs.declared.answer.Counts.{Counts}
 use Rattle.engine.specs.declared.answer.Numbers.{Numbers}
 use Rattle.engine.specs.declared.answer.Answer.{Answer}
 use Rattle.engine.specs.declared.answer.Answer.TheVariants.{Refused, Stopped, Finished}
-use Rattle.engine.specs.Answers.{refusal_numbers, run_numbers, numbers_of, run_of, call_judgement, answer_to, Ran}
-
-module _ (a : Answer) where
-  pub refused_numbers : (n : Refusal) (k : ℕ) → a ≡ Refused n → k ≡ number_of n → refusal_numbers k ≡ numbers_of a
-  unfolding numbers_of
-  refused_numbers n k e f = ap refusal_numbers f ∙ ap numbers_of (sym e)
-
-  pub stopped_numbers : (c : Counts) → a ≡ Stopped c → run_numbers 0 c ≡ numbers_of a
-  unfolding numbers_of
-  stopped_numbers c e = ap numbers_of (sym e)
-
-  pub finished_numbers : (c : Counts) → a ≡ Finished c → run_numbers 1 c ≡ numbers_of a
-  unfolding numbers_of
-  finished_numbers c e = ap numbers_of (sym e)
+use Rattle.engine.specs.Answers.{numbers_of, run_of, call_judgement, answer_to, Ran}
 
 -- the answer that has these numbers
 answer_in : Numbers → Answer

@@ -7,8 +7,8 @@ use mathlib.Core.List.{List}
 use Rattle.logic.specs.Theory.{Theory}
 use Rattle.logic.specs.Content.{SameContent}
 use Rattle.table.specs.declared.format.Sizes.{Sizes}
-use Rattle.table.specs.declared.judge.Judgement.{Judgement}
-use Rattle.table.specs.declared.judge.Judgement.TheVariants.{Accepted}
+use Rattle.table.specs.Refusals.{Judgement}
+use Rattle.std.specs.Prelude.{Ok}
 use Rattle.table.specs.declared.edition.Edition.{Edition}
 use Rattle.table.specs.Format.{theory_of}
 use Rattle.table.specs.Refusals.{judgement_of}
@@ -21,7 +21,7 @@ pub one_run : {j : Judgement} {d : Theory} {budget : ℕ} {log log₁ log₂ scr
     → Ran j d budget log log₂ scratch scratch₂ m → (n ≡ m) × (log₁ ≡ log₂) × (scratch₁ ≡ scratch₂)
 one_run r q = (r.answer ∙ sym q.answer, r.written ∙ sym q.written, r.cleared ∙ sym q.cleared)
 
-pub same_run : (e d : Edition) (b c : List ℕ) (s t : Sizes) → judgement_of e b ≡ Accepted s → judgement_of d c ≡ Accepted t → SameContent (theory_of e b) (theory_of d c)
+pub same_run : (e d : Edition) (b c : List ℕ) (s t : Sizes) → judgement_of e b ≡ Ok s → judgement_of d c ≡ Ok t → SameContent (theory_of e b) (theory_of d c)
     → (budget : ℕ) (log log₁ log₂ scratch scratch₁ scratch₂ : List ℕ) (n m : Numbers) → Ran (judgement_of e b) (theory_of e b) budget log log₁ scratch scratch₁ n
     → Ran (judgement_of d c) (theory_of d c) budget log log₂ scratch scratch₂ m → (n ≡ m) × (log₁ ≡ log₂) × (scratch₁ ≡ scratch₂)
 same_run e d b c s t a f w budget log log₁ log₂ scratch scratch₁ scratch₂ n m r q =

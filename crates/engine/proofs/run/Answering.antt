@@ -16,21 +16,23 @@ use Rattle.logic.proofs.Plain.{plain_demands}
 use Rattle.logic.proofs.Tests.{cond_cases}
 use Rattle.table.specs.declared.format.Sizes.{Sizes}
 use Rattle.table.specs.declared.judge.Refusal.{Refusal}
-use Rattle.table.specs.declared.judge.Judgement.{Judgement}
-use Rattle.table.specs.declared.judge.Judgement.TheVariants as judgement
+use Rattle.table.specs.Refusals.{Judgement}
+use Rattle.std.specs.Prelude.{Result, Ok, Err}
 use Rattle.table.specs.declared.edition.Edition.{Edition}
-use Rattle.table.specs.Editions.{layout_of}
+use Rattle.table.specs.declared.accepted.Table.{Table}
+use Rattle.table.specs.Tables.{Opened, theory_said}
 use Rattle.table.specs.Format.{theory_in, theory_of}
-use Rattle.table.specs.Refusals.{judgement_of, Legal}
-use Rattle.table.proofs.Legal.{ranged, all_entries, refused_not, theory_read}
+use Rattle.table.specs.Refusals.{judgement_of}
+use Rattle.table.proofs.Legal.{ranged, all_entries, refused_not}
 use Rattle.engine.specs.declared.answer.Numbers.{Numbers}
 use Rattle.engine.specs.declared.answer.Answer.{Answer}
 use Rattle.engine.specs.declared.answer.Answer.TheVariants.{Refused, Stopped, Finished}
 use Rattle.memory.specs.Api.{Prepared}
 use Rattle.engine.specs.Answers.{numbers_of, run_of, call_judgement, counts_in, answer_to, log_after, scratch_after, Ran}
-use Rattle.engine.specs.Working.{Opened, Worked}
-use Rattle.engine.proofs.answer.Buffers.{refused_table, proper_read, no_line, by_log, long_enough}
-use Rattle.engine.proofs.run.Trying.{drop_further}
+use Rattle.engine.specs.Working.{Worked}
+use Rattle.engine.specs.Working as working
+use Rattle.engine.proofs.answer.Buffers.{refused_table, no_line, by_log, long_enough}
+use Rattle.engine.proofs.run.Trying.{drop_further, proper_in}
 use Rattle.memory.proofs.Views.{kept_none, kept_then}
 
 -- the log only grows
@@ -40,7 +42,7 @@ initial_lines s budget h =
     (let (r, e) = proceed_extends s (budget - s.start) budget [] (initial s) s.start in omega (arith, length-append (initial s) r, ap length e))
 
 -- the memory is prepared, the initial conclusions are written, and the lines are processed
-pub worked_all : {d : Theory} {m m₁ m₂ m₃ l l₂ l₃ : List ℕ} {a : Answer} (n start budget : ℕ) → start ≡ size d → start ≤ budget → Prepared d m m₁ → Opened d m₁ l m₂ l₂ n
+pub worked_all : {d : Theory} {m m₁ m₂ m₃ l l₂ l₃ : List ℕ} {a : Answer} (n start budget : ℕ) → start ≡ size d → start ≤ budget → Prepared d m m₁ → working.Opened d m₁ l m₂ l₂ n
     → Worked (run (plain_system d) budget) m₂ l₂ m₃ l₃ a → Worked (run (plain_system d) budget) m l m₃ l₃ a
 unfolding system_of
 worked_all {d} {m} {m₁} {m₂} {m₃} {l} {l₂} n start budget e h p o w =
@@ -54,30 +56,39 @@ worked_all {d} {m} {m₁} {m₂} {m₃} {l} {l₂} n start budget e h p o w =
       kept = kept_then (kept_then p.kept o.kept) w.kept;
     }
 
-module _ (b : List ℕ) (s : Sizes) (e : Legal b s) where
-  pub size_in : (n : ℕ) → n ≡ s.atoms + s.facts + s.rules + s.entries + s.pairs → n ≡ size (theory_in b s)
+-- of a table that is the same
+pub worked_of : {t u : Table} (budget : ℕ) {m l m' l' : List ℕ} {a : Answer} → u ≡ t → Worked (run (plain_system (theory_said u)) budget) m l m' l' a
+    → Worked (run (plain_system (theory_said t)) budget) m l m' l' a
+worked_of budget {m} {l} {m'} {l'} {a} e w = subst (λ k. Worked (run (plain_system (theory_said k)) budget) m l m' l' a) e w
+
+-- the same buffers, as they are at the end
+pub worked_in : {o : Outcome} {m l m₁ l₁ m₂ l₂ : List ℕ} {a : Answer} → Worked o m l m₁ l₁ a → m₂ ≡ m₁ → l₂ ≡ l₁ → Worked o m l m₂ l₂ a
+worked_in {o} {m} {l} {a = a} w e f = coe 1 0 (j. Worked o m l (e j) (f j) a) w
+
+module _ (table : Table) where
+  pub size_in : (n : ℕ) → n ≡ table.sizes.atoms + table.sizes.facts + table.sizes.rules + table.sizes.entries + table.sizes.pairs → n ≡ size (theory_said table)
   unfolding theory_in
-  size_in n f = let k : entries (theory_in b s) ≡ s.entries = all_entries b s (ranged b s e.ranges) in omega arith
+  size_in n f = let k : entries (theory_said table) ≡ table.sizes.entries = all_entries table.layout.now table.sizes (ranged table.layout.now table.sizes table.legal.ranges) in omega arith
 
   -- a budget below the size
-  pub worked_none : (n budget : ℕ) → n ≡ size (theory_in b s) → budget < n → (m l : List ℕ)
-      → Worked (run_of (theory_in b s) budget) m l m l (Stopped (record { lines = 0; worked = 0; spent = 0 }))
+  pub worked_none : (n budget : ℕ) → n ≡ size (theory_said table) → budget < n → (m l : List ℕ)
+      → Worked (run_of (theory_said table) budget) m l m l (Stopped (record { lines = 0; worked = 0; spent = 0 }))
   unfolding system_of
   worked_none n budget f h m l =
       subst (λ o. Worked o m l m l (Stopped (record { lines = 0; worked = 0; spent = 0 })))
-      (sym (run_unstarted (plain_system (theory_in b s)) budget (subst (λ k. budget < k) f h)))
+      (sym (run_unstarted (plain_system (theory_said table)) budget (subst (λ k. budget < k) f h)))
       (record { answer = refl; written = refl; kept = kept_none m })
 
   -- which has no line
-  pub unpaid : (n budget log : ℕ) → n ≡ size (theory_in b s) → budget < n → lines (run_of (theory_in b s) budget) ≤ log
-  unpaid n budget log f h = no_line b s e budget log (subst (λ k. budget < k) f h)
+  pub unpaid : (n budget log : ℕ) → n ≡ size (theory_said table) → budget < n → lines (run_of (theory_said table) budget) ≤ log
+  unpaid n budget log f h = no_line table.layout.now table.sizes table.legal budget log (subst (λ k. budget < k) f h)
 
   -- A run that was made in other buffers, and its lines copied.
-  module _ (budget : ℕ) {m m' l l' : List ℕ} {a : Answer} (w : Worked (run_of (theory_in b s) budget) m l m' l' a) (n : Numbers) (f : n ≡ numbers_of a) where
+  module _ (budget : ℕ) {m m' l l' : List ℕ} {a : Answer} (w : Worked (run_of (theory_said table) budget) m l m' l' a) (n : Numbers) (f : n ≡ numbers_of a) where
     o : Outcome
-    o = run_of (theory_in b s) budget
+    o = run_of (theory_said table) budget
 
-    pub lines_written : n.lines ≡ lines (run_of (theory_in b s) budget)
+    pub lines_written : n.lines ≡ lines (run_of (theory_said table) budget)
     unfolding numbers_of o
     lines_written =
         ap (λ z. z.lines) f ∙ ap (λ z. (numbers_of z).lines) w.answer
@@ -87,7 +98,7 @@ module _ (b : List ℕ) (s : Sizes) (e : Legal b s) where
     unfolding o
     lines_inside = omega (arith, lines_written, ap length w.written, length-append (log_of o) (drop (lines o) l))
 
-    pub worked_copied : (mem log log' : List ℕ) → log' ≡ take n.lines l' ++ drop n.lines log → Worked (run_of (theory_in b s) budget) mem log mem log' a
+    pub worked_copied : (mem log log' : List ℕ) → log' ≡ take n.lines l' ++ drop n.lines log → Worked (run_of (theory_said table) budget) mem log mem log' a
     unfolding o
     worked_copied mem log log' g =
         record {
@@ -99,16 +110,16 @@ module _ (b : List ℕ) (s : Sizes) (e : Legal b s) where
 -- the scratch after a call, by its first words and the rest
 rest_after : (j : Judgement) (l : List ℕ) → 32768 ≤ length l → scratch_after j (take 32768 l) ++ drop 32768 l ≡ scratch_after j l
 unfolding scratch_after
-rest_after (judgement.Accepted s) l h =
+rest_after (Ok s) l h =
     ap (λ (z : List ℕ). (replicate 32768 0 ++ z) ++ drop 32768 l)
     (ap (λ k. drop k (take 32768 l)) (sym (length-take-le 32768 l h)) ∙ drop-length (take 32768 l))
     ∙ ap (λ (z : List ℕ). z ++ drop 32768 l) (append-nil (replicate 32768 0))
-rest_after (judgement.Refused n) l h = take-append-drop 32768 l
+rest_after (Err n) l h = take-append-drop 32768 l
 
 module _ (j : Judgement) (d : Theory) (budget : ℕ) (log scratch : List ℕ) where
   -- refused: by its table, in which case nothing is demanded of the run, or by its buffers
-  pub ran_refused : {n : Refusal} {a : Answer} {log' scratch' : List ℕ} → call_judgement j d budget (length scratch) (length log) ≡ judgement.Refused n
-      → ((s : Sizes) → j ≡ judgement.Accepted s → T (proper d)) → (a ≡ Refused n) × (log' ≡ log) × (scratch' ≡ scratch)
+  pub ran_refused : {n : Refusal} {a : Answer} {log' scratch' : List ℕ} → call_judgement j d budget (length scratch) (length log) ≡ Err n
+      → ((s : Sizes) → j ≡ Ok s → T (proper d)) → (a ≡ Refused n) × (log' ≡ log) × (scratch' ≡ scratch)
       → Ran j d budget log log' scratch scratch' (numbers_of a)
   unfolding answer_to log_after scratch_after
   ran_refused e p (f, g, h) =
@@ -121,60 +132,53 @@ module _ (j : Judgement) (d : Theory) (budget : ℕ) (log scratch : List ℕ) wh
 
 -- of a table that is refused
 pub ran_not : (d : Theory) (budget : ℕ) (log scratch : List ℕ) (n : Refusal) {a : Answer} {log' scratch' : List ℕ} → (a ≡ Refused n) × (log' ≡ log) × (scratch' ≡ scratch)
-    → Ran (judgement.Refused n) d budget log log' scratch scratch' (numbers_of a)
+    → Ran (Err n) d budget log log' scratch scratch' (numbers_of a)
 ran_not d budget log scratch n f =
-    ran_refused (judgement.Refused n) d budget log scratch (refused_table d budget (length scratch) (length log) n) (λ s e. absurd (refused_not e)) f
+    ran_refused (Err n) d budget log scratch (refused_table d budget (length scratch) (length log) n) (λ s e. absurd (refused_not e)) f
 
-module _ (b : List ℕ) (s : Sizes) (e : Legal b s) (budget : ℕ) (log scratch : List ℕ) where
+module _ (table : Table) {budget : ℕ} {log scratch : List ℕ} where
   -- refused by its buffers
   pub ran_short : {n : Refusal} {a : Answer} {log' scratch' : List ℕ}
-      → call_judgement (judgement.Accepted s) (theory_in b s) budget (length scratch) (length log) ≡ judgement.Refused n
-      → (a ≡ Refused n) × (log' ≡ log) × (scratch' ≡ scratch) → Ran (judgement.Accepted s) (theory_in b s) budget log log' scratch scratch' (numbers_of a)
-  ran_short f g = ran_refused (judgement.Accepted s) (theory_in b s) budget log scratch f (λ _ _. proper_read b s e) g
+      → call_judgement (Ok table.sizes) (theory_said table) budget (length scratch) (length log) ≡ Err n
+      → (a ≡ Refused n) × (log' ≡ log) × (scratch' ≡ scratch) → Ran (Ok table.sizes) (theory_said table) budget log log' scratch scratch' (numbers_of a)
+  ran_short f g = ran_refused (Ok table.sizes) (theory_said table) budget log scratch f (λ _ _. proper_in table) g
 
   -- run, and the scratch cleared
-  pub ran : 32768 ≤ length scratch → lines (run_of (theory_in b s) budget) ≤ length log → (mem log' scratch' : List ℕ) (a : Answer)
-      → Worked (run_of (theory_in b s) budget) scratch log mem log' a → scratch' ≡ replicate 32768 0 ++ drop 32768 mem
-      → Ran (judgement.Accepted s) (theory_in b s) budget log log' scratch scratch' (numbers_of a)
+  pub ran : 32768 ≤ length scratch → lines (run_of (theory_said table) budget) ≤ length log → {mem log' scratch' : List ℕ} {a : Answer}
+      → Worked (run_of (theory_said table) budget) scratch log mem log' a → scratch' ≡ replicate 32768 0 ++ drop 32768 mem
+      → Ran (Ok table.sizes) (theory_said table) budget log log' scratch scratch' (numbers_of a)
   unfolding answer_to log_after scratch_after
-  ran h k mem log' scratch' a w f =
+  ran h k {mem} {log'} {scratch'} {a} w f =
       record {
-        answer = ap numbers_of (w.answer ∙ sym (ap (λ j. answer_to j (run_of (theory_in b s) budget)) accepted));
-        written = w.written ∙ sym (ap (λ j. log_after j (run_of (theory_in b s) budget) log) accepted);
+        answer = ap numbers_of (w.answer ∙ sym (ap (λ j. answer_to j (run_of (theory_said table) budget)) accepted));
+        written = w.written ∙ sym (ap (λ j. log_after j (run_of (theory_said table) budget) log) accepted);
         cleared = f ∙ ap (λ (z : List ℕ). replicate 32768 0 ++ z) w.kept.rest ∙ sym (ap (λ j. scratch_after j scratch) accepted);
-        demands = λ _ _. plain_demands (theory_in b s) (proper_read b s e) budget;
+        demands = λ _ _. plain_demands (theory_said table) (proper_in table) budget;
       }
     where
-      accepted : call_judgement (judgement.Accepted s) (theory_in b s) budget (length scratch) (length log) ≡ judgement.Accepted s
-      accepted = long_enough b s e budget (length log) (length scratch) h k
+      accepted : call_judgement (Ok table.sizes) (theory_said table) budget (length scratch) (length log) ≡ Ok table.sizes
+      accepted = long_enough table.layout.now table.sizes table.legal budget (length log) (length scratch) h k
 
   -- only the first words of the scratch lent
-  pub ran_cut : 32768 ≤ length scratch → (log' part scratch' : List ℕ) {r : Numbers}
-      → Ran (judgement.Accepted s) (theory_in b s) budget log log' (take 32768 scratch) part r → scratch' ≡ part ++ drop 32768 scratch
-      → Ran (judgement.Accepted s) (theory_in b s) budget log log' scratch scratch' r
-  ran_cut h log' part scratch' r g =
+  pub ran_cut : 32768 ≤ length scratch → {log' part scratch' : List ℕ} {r : Numbers}
+      → Ran (Ok table.sizes) (theory_said table) budget log log' (take 32768 scratch) part r → scratch' ≡ part ++ drop 32768 scratch
+      → Ran (Ok table.sizes) (theory_said table) budget log log' scratch scratch' r
+  ran_cut h {log'} {part} {scratch'} r g =
       record {
-        answer = r.answer ∙ ap (λ j. numbers_of (answer_to j (run_of (theory_in b s) budget))) same;
-        written = r.written ∙ ap (λ j. log_after j (run_of (theory_in b s) budget) log) same;
+        answer = r.answer ∙ ap (λ j. numbers_of (answer_to j (run_of (theory_said table) budget))) same;
+        written = r.written ∙ ap (λ j. log_after j (run_of (theory_said table) budget) log) same;
         cleared = g ∙ ap (λ (z : List ℕ). z ++ drop 32768 scratch) (r.cleared ∙ ap (λ j. scratch_after j (take 32768 scratch)) same) ∙ rest_after _ scratch h;
         demands = r.demands;
       }
     where
-      same : call_judgement (judgement.Accepted s) (theory_in b s) budget (length (take 32768 scratch)) (length log)
-          ≡ call_judgement (judgement.Accepted s) (theory_in b s) budget (length scratch) (length log)
+      same : call_judgement (Ok table.sizes) (theory_said table) budget (length (take 32768 scratch)) (length log)
+          ≡ call_judgement (Ok table.sizes) (theory_said table) budget (length scratch) (length log)
       same =
-          by_log b s e budget (length log) (length (take 32768 scratch)) (omega (arith, length-take-le 32768 scratch h))
-          ∙ sym (by_log b s e budget (length log) (length scratch) h)
+          by_log table.layout.now table.sizes table.legal budget (length log) (length (take 32768 scratch)) (omega (arith, length-take-le 32768 scratch h))
+          ∙ sym (by_log table.layout.now table.sizes table.legal budget (length log) (length scratch) h)
 
--- a run of the layout that was taken from a table is one of the table
-pub ran_of : (e : Edition) (b : List ℕ) (s : Sizes) (budget : ℕ) (log log' scratch scratch' : List ℕ) (n : Numbers) {j : Judgement} {l : List ℕ} → j ≡ judgement_of e b
-    → j ≡ judgement.Accepted s → l ≡ layout_of e b → Ran (judgement.Accepted s) (theory_in l s) budget log log' scratch scratch' n
-    → Ran (judgement_of e b) (theory_of e b) budget log log' scratch scratch' n
-ran_of e b s budget log log' scratch scratch' n f g h r =
-    subst (λ i. Ran i (theory_of e b) budget log log' scratch scratch' n) (sym g ∙ f)
-    (subst (λ d. Ran (judgement.Accepted s) d budget log log' scratch scratch' n) (ap (λ k. theory_in k s) h ∙ theory_read e b s (sym f ∙ g)) r)
-
-pub ran_refused_of : (e : Edition) (b : List ℕ) (budget : ℕ) (log scratch : List ℕ) (n : Refusal) {j : Judgement} {a : Answer} {log' scratch' : List ℕ} → j ≡ judgement_of e b
-    → j ≡ judgement.Refused n → (a ≡ Refused n) × (log' ≡ log) × (scratch' ≡ scratch) → Ran (judgement_of e b) (theory_of e b) budget log log' scratch scratch' (numbers_of a)
-ran_refused_of e b budget log scratch n {a = a} {log' = log'} {scratch' = scratch'} f g h =
-    subst (λ i. Ran i (theory_of e b) budget log log' scratch scratch' (numbers_of a)) (sym g ∙ f) (ran_not (theory_of e b) budget log scratch n h)
+-- a run of what was taken from a table that is refused is one of the table
+pub ran_refused_of : (e : Edition) (b : List ℕ) (budget : ℕ) (log scratch : List ℕ) (n : Refusal) {r : Result Table Refusal} {a : Answer} {log' scratch' : List ℕ} → Opened e b r
+    → r ≡ Err n → (a ≡ Refused n) × (log' ≡ log) × (scratch' ≡ scratch) → Ran (judgement_of e b) (theory_of e b) budget log log' scratch scratch' (numbers_of a)
+ran_refused_of e b budget log scratch n {a = a} {log' = log'} {scratch' = scratch'} o g h =
+    subst (λ i. Ran i (theory_of e b) budget log log' scratch scratch' (numbers_of a)) (sym (subst (Opened e b) g o)) (ran_not (theory_of e b) budget log scratch n h)

@@ -3,7 +3,7 @@ use Prim.Native.Nat.{ℕ, zero, suc, ◌+◌, ◌*◌, ◌/◌, ◌%◌, ◌≤�
 use native.Mathlib.Nat.{lt_irrefl, mod-lt}
 use native.Mathlib.Numerals.{add-one}
 use native.Mathlib.Omega.{arith}
-use mathlib.Core.Path.{◌≡◌, refl, sym, ◌∙◌, ap, ap₂, fun_ext}
+use mathlib.Core.Path.{◌≡◌, refl, sym, ◌∙◌, ap, ap₂, subst, fun_ext}
 use mathlib.Core.Logic.{⊎_elim}
 use mathlib.Core.Bool.{Bool, true, false, cond}
 use mathlib.Core.List.{List, [], ◌∷◌, ◌++◌, append_assoc, append-nil}
@@ -21,7 +21,7 @@ use Rattle.logic.proofs.Lists.{member_pick, member_upto, pick_append}
 use Rattle.logic.proofs.Runs.{grow_append}
 use Rattle.memory.specs.Layout.{tag_count}
 use Rattle.memory.specs.Memory.{held_of}
-use Rattle.memory.specs.Api.{adds, Added}
+use Rattle.memory.specs.Api.{adds, Added, Prepared}
 use Rattle.engine.specs.Working.{Blank, Logged, Tried, Opened, Processed, family_if}
 use Rattle.engine.proofs.run.Trying.{tried_literals, tried_none, tried_same, with_tags_append}
 use Rattle.memory.proofs.Views.{kept_then}
@@ -61,9 +61,9 @@ module _ (d : Theory) (mem₀ log₀ : List ℕ) (k : Blank d mem₀) where
   unfolding some_of derives_from distinct
   no_lines h = record { ready = k.ready; written = k.nothing; derives = tt; once = tt; inside = omega arith; room = h }
 
-  pub opening_start : tag_count * d.atoms ≤ length log₀ → Tried d (with_tags tag_count (upto 0)) mem₀ log₀ 0 mem₀ log₀ 0
+  pub opening_start : {n : ℕ} → n ≡ 0 → Logged d mem₀ log₀ n → Tried d (with_tags tag_count (upto 0)) mem₀ log₀ 0 mem₀ log₀ n
   unfolding with_tags upto
-  opening_start h = tried_none d mem₀ log₀ 0 (no_lines h)
+  opening_start e g = subst (Tried d [] mem₀ log₀ 0 mem₀ log₀) (sym e) (tried_none d mem₀ log₀ 0 (subst (Logged d mem₀ log₀) e g))
 
   pub opening_next : {mem log mem' log' : List ℕ} {n n' : ℕ} (q : ℕ) → Tried d (with_tags tag_count (upto q)) mem₀ log₀ 0 mem log n
       → Tried d (with_tags tag_count (q ∷ [])) mem log n mem' log' n' → Tried d (with_tags tag_count (upto (q + 1))) mem₀ log₀ 0 mem' log' n'
@@ -84,22 +84,14 @@ module _ (d : Theory) (mem₀ log₀ : List ℕ) (k : Blank d mem₀) where
         kept = f.kept;
       }
 
+-- the lines of a memory that was prepared
+pub prepared_lines : {d : Theory} {m₀ m l : List ℕ} → Prepared d m₀ m → tag_count * d.atoms ≤ length l → Logged d m l 0
+prepared_lines {d} {m = m} {l} p = no_lines d m l (record { ready = p.ready; none = p.none; nothing = p.nothing })
+
 -- the family of a tag
 family_of_lem : (t : ℕ) → t < tag_count → family_if (ltb t 2) ≡ family_of t
 family_of_lem t h =
     ⊎_elim (λ k. ap family_if (le-ltb t 2 k) ∙ (let e : 1 ≡ t / 2 = omega arith in e)) (λ k. ap family_if (lt-ltb t 2 k) ∙ (let e : 0 ≡ t / 2 = omega arith in e)) (at_most 2 t)
-
--- what is written is the same once a conclusion was processed
-pub logged_added : {d : Theory} {m m' l : List ℕ} {n x : ℕ} → Logged d m l n → Added d x m m' → Logged d m' l n
-logged_added g a =
-    record {
-      ready = a.ready;
-      written = λ y. a.written y ∙ g.written y;
-      derives = g.derives;
-      once = g.once;
-      inside = g.inside;
-      room = g.room;
-    }
 
 pub processed : {d : Theory} {m m₁ l m₂ l₂ m₃ l₃ : List ℕ} {n n₂ n₃ : ℕ} (x : ℕ) → Added d x m m₁ → Tried d (with_tags tag_count ((x / tag_count) ∷ complement (x / tag_count) ∷ [])) m₁ l n m₂ l₂ n₂
     → Tried d (with_tags tag_count (heads d (visited d (family_if (ltb (x % tag_count) 2)) (x / tag_count)))) m₂ l₂ n₂ m₃ l₃ n₃ → Processed d x m l n m₃ l₃ n₃

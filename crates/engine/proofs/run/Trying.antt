@@ -3,7 +3,7 @@ use Prim.Native.Nat.{ℕ, ◌+◌, ◌-◌, ◌*◌, ◌%◌, ◌≤◌, ◌<◌
 use native.Mathlib.Nat.{le_refl, le_trans}
 use native.Mathlib.Numerals.{add-one}
 use native.Mathlib.Omega.{arith}
-use mathlib.Core.Path.{◌≡◌, refl, sym, ◌∙◌, ap, ap₂, subst, fun_ext}
+use mathlib.Core.Path.{◌≡◌, refl, sym, ◌∙◌, ap, subst, fun_ext}
 use mathlib.Core.Logic.{◌⊎◌, inl, inr, ⊎_elim}
 use mathlib.Core.Bool.{Bool, true, false}
 use mathlib.Core.List.{List, [], ◌∷◌, ◌++◌, append_assoc, map}
@@ -12,21 +12,19 @@ use lib.ListN.{length, set, take, drop, length-append, length-set}
 use lib.Seq.{length-take-le, take-suc-set, drop-set-lt, drop-drop}
 use Rattle.logic.specs.Tests.{◌and◌, ◌or◌, isnt, member, distinct, upto}
 use Rattle.logic.specs.Theory.{Theory, proper, complement}
-use Rattle.logic.specs.Inference.{follows}
 use Rattle.logic.specs.System.{System, held, Coherent, derivation}
 use Rattle.logic.specs.Worklist.{put, grow}
-use Rattle.logic.specs.Reading.{tagged_by, system_of, with_tags, conclusion}
+use Rattle.logic.specs.Reading.{system_of, with_tags, conclusion}
 use Rattle.logic.specs.Plain.{plain_system}
 use Rattle.logic.proofs.Tests.{and_intro, and_left, and_right, false_of, isnt_elim, isnt_intro, of_false, of_true, or_elim, or_left, or_right, test_cases}
 use Rattle.logic.proofs.Lists.{distinct_snoc, member_last, member_left, member_more}
-use Rattle.logic.proofs.Literals.{join_div, join_mod}
 use Rattle.logic.proofs.Derivations.{derivation_snoc, derives_all_below, monotone}
 use Rattle.logic.proofs.Coherence.{coherent_length, part_coherent}
 use Rattle.logic.proofs.Runs.{grow_append}
 use Rattle.logic.proofs.Plain.{plain_coherent, plain_lawful}
-use Rattle.table.specs.declared.format.Sizes.{Sizes}
+use Rattle.table.specs.declared.accepted.Table.{Table}
+use Rattle.table.specs.Tables.{theory_said}
 use Rattle.table.specs.Format.{theory_in}
-use Rattle.table.specs.Refusals.{Legal}
 use Rattle.table.proofs.Legal.{Limited, limited, ranged, proper_theory}
 use Rattle.memory.specs.Layout.{tag_count}
 use Rattle.memory.specs.Memory.{held_of, written_of}
@@ -35,30 +33,21 @@ use Rattle.engine.specs.Working.{Logged, Tried}
 use Rattle.memory.proofs.Views.{kept_none, kept_then}
 use Rattle.memory.proofs.visit.Marks.{held_written}
 
--- An accepted table.
-module _ (b : List ℕ) (s : Sizes) where
-  pub atoms_in : (theory_in b s).atoms ≡ s.atoms
+-- A table that is accepted.
+module _ (table : Table) where
+  pub atoms_in : (theory_said table).atoms ≡ table.sizes.atoms
   unfolding theory_in
   atoms_in = refl
 
-  pub rules_in : (theory_in b s).rules ≡ s.rules
+  pub rules_in : (theory_said table).rules ≡ table.sizes.rules
   unfolding theory_in
   rules_in = refl
 
-  pub literal_in_lem : (q : ℕ) → q < 2 * s.atoms → q < 2 * (theory_in b s).atoms
-  unfolding theory_in
-  literal_in_lem q h = h
+  pub few : Limited table.sizes
+  few = limited table.sizes table.legal.limits
 
-  pub few : Legal b s → Limited s
-  few e = limited s e.limits
-
-  pub proper_in : Legal b s → T (proper (theory_in b s))
-  proper_in e = proper_theory b s (ranged b s e.ranges)
-
--- a conclusion by its literal and tag
-pub infers_at : (d : Theory) (h : ℕ → Bool) (q t : ℕ) → t < tag_count → (plain_system d).infers h (tag_count * q + t) ≡ follows d (tagged_by tag_count h) q t
-unfolding system_of
-infers_at d h q t l = ap₂ (λ x y. follows d (tagged_by tag_count h) x y) (join_div tag_count q t l) (join_mod tag_count q t l)
+  pub proper_in : T (proper (theory_said table))
+  proper_in = proper_theory table.layout.now table.sizes (ranged table.layout.now table.sizes table.legal.ranges)
 
 put_stays : (b : Bool) (l : List ℕ) (x : ℕ) → (T b → ⊥) → put b l x ≡ l
 unfolding put
@@ -219,33 +208,28 @@ module _ (d : Theory) (m l m' l' : List ℕ) (n n' x : ℕ) (g : Logged d m l n)
       ⊎_elim (λ t. subst T (sym (f.logged.written x ∙ ap (member x) (lines_now ∙ put_adds goes (take n l) x t))) (member_last (take n l) x))
       (λ u. absurd (h (counted ∙ ap length (put_stays goes (take n l) x u) ∙ length-take-le n l g.inside))) (test_cases goes)
 
--- Tag t of literal q of an accepted table.
-module _ (b : List ℕ) (s : Sizes) (e : Legal b s) (q t : ℕ) (l : q < 2 * s.atoms) (k : t < tag_count) where
-  small_here : tag_count * q + t < tag_count * (2 * (theory_in b s).atoms)
-  small_here = omega (arith, atoms_in b s)
+-- A conclusion of a table that follows and is not written.
+module _ (table : Table) (m l : List ℕ) (n x : ℕ) (g : Logged (theory_said table) m l n) (small : x < tag_count * (2 * table.sizes.atoms)) (new : written_of m x ≡ false)
+    (follows : (plain_system (theory_said table)).infers (held_of m) x ≡ true) where
+  small_here : x < tag_count * (2 * (theory_said table).atoms)
+  small_here = omega (arith, atoms_in table)
 
-  module _ (mem log : List ℕ) (n : ℕ) (g : Logged (theory_in b s) mem log n) where
-    pub skips_unproved : (r : Bool) → r ≡ follows (theory_in b s) (tagged_by tag_count (held_of mem)) q t → r ≡ false → Tried (theory_in b s) ((tag_count * q + t) ∷ []) mem log n mem log n
-    skips_unproved r f h =
-        skips (theory_in b s) (proper_in b s e) mem log n (tag_count * q + t) g
-        (λ u. absurd (of_false _ (infers_at (theory_in b s) (held_of mem) q t k ∙ sym f ∙ h) u))
+  pub room_for : (n < length l) × (n < 2048)
+  room_for = (
+    fits_log (theory_said table) (proper_in table) m l n x g small_here new (of_true _ follows),
+    omega (arith, fits_line (theory_said table) (proper_in table) m l n x g small_here new (of_true _ follows), atoms_in table, (few table).atoms),
+  )
 
-    module _ (new : written_of mem (tag_count * q + t) ≡ false) (r : Bool) (fr : r ≡ follows (theory_in b s) (tagged_by tag_count (held_of mem)) q t) (hr : r ≡ true) where
-      proved : T ((plain_system (theory_in b s)).infers (held_of mem) (tag_count * q + t))
-      proved = of_true _ (infers_at (theory_in b s) (held_of mem) q t k ∙ sym fr ∙ hr)
+  pub writes_line : (m' : List ℕ) → Wrote (theory_said table) x m m' → Tried (theory_said table) (x ∷ []) m l n m' (set l n x) (n + 1)
+  writes_line = writes (theory_said table) (proper_in table) m l n x g small_here new (of_true _ follows)
 
-      pub room_for : (n < length log) × (n < 2048)
-      room_for = (
-        fits_log (theory_in b s) (proper_in b s e) mem log n (tag_count * q + t) g small_here new proved,
-        omega (arith, fits_line (theory_in b s) (proper_in b s e) mem log n (tag_count * q + t) g small_here new proved, atoms_in b s, (few b s e).atoms),
-      )
+-- What was tried for a table was tried for one that is the same.
+pub tried_of : (cs : Theory → List ℕ) {t u : Table} {m l m' l' : List ℕ} {n n' : ℕ} → u ≡ t → Tried (theory_said u) (cs (theory_said u)) m l n m' l' n'
+    → Tried (theory_said t) (cs (theory_said t)) m l n m' l' n'
+tried_of cs {m = m} {l} {m'} {l'} {n} {n'} e f = subst (λ k. Tried (theory_said k) (cs (theory_said k)) m l n m' l' n') e f
 
-      pub writes_line : (mem' : List ℕ) → Wrote (theory_in b s) (tag_count * q + t) mem mem' → Tried (theory_in b s) ((tag_count * q + t) ∷ []) mem log n mem' (set log n (tag_count * q + t)) (n + 1)
-      writes_line = writes (theory_in b s) (proper_in b s e) mem log n (tag_count * q + t) g small_here new proved
-
--- a line that was appended
-pub tried_appended : {d : Theory} {cs m l m' l' k : List ℕ} {n i r : ℕ} → Tried d cs m l n m' k i → (l' ≡ k) × (r ≡ i) → Tried d cs m l n m' l' r
-tried_appended {d} {cs} {m} {l} {m'} {n = n} f (e, g) = coe 1 0 (j. Tried d cs m l n m' (e j) (g j)) f
+pub tried_by : {t u : Table} {cs m l m' l' : List ℕ} {n n' : ℕ} → u ≡ t → Tried (theory_said u) cs m l n m' l' n' → Tried (theory_said t) cs m l n m' l' n'
+tried_by {cs = cs} = tried_of (λ _. cs)
 
 -- The conclusions of two lists of literals, and of one literal.
 pub with_tags_append : (n : ℕ) (qs rs : List ℕ) → with_tags n (qs ++ rs) ≡ with_tags n qs ++ with_tags n rs
@@ -264,36 +248,36 @@ unfolding with_tags upto
 tried_tags {d} q f g = tried_on d f g
 
 -- A tag and its opposite, of an accepted table: of the two only one is ever written.
-module _ (b : List ℕ) (s : Sizes) (e : Legal b s) (q t : ℕ) (l : q < 2 * s.atoms) (k : t < 3) (even : t % 2 ≡ 0) where
+module _ (table : Table) {q t : ℕ} (l : q < 2 * table.sizes.atoms) (k : t < 3) (even : t % 2 ≡ 0) where
   abbrev first : ℕ
   first = tag_count * q + t
 
   abbrev second : ℕ
   second = tag_count * q + (t + 1)
 
-  module _ (mem log : List ℕ) (n : ℕ) (g : Logged (theory_in b s) mem log n) where
-    skip_first : T (written_of mem first) ⊎ T (written_of mem second) → Tried (theory_in b s) (first ∷ []) mem log n mem log n
-    skip_first = skips_opposed (theory_in b s) (proper_in b s e) mem log n first second g (omega (arith, atoms_in b s)) (omega arith)
+  module _ {mem log : List ℕ} {n : ℕ} (g : Logged (theory_said table) mem log n) where
+    skip_first : T (written_of mem first) ⊎ T (written_of mem second) → Tried (theory_said table) (first ∷ []) mem log n mem log n
+    skip_first = skips_opposed (theory_said table) (proper_in table) mem log n first second g (omega (arith, atoms_in table)) (omega arith)
 
-    skip_second : T (written_of mem second) ⊎ T (written_of mem first) → Tried (theory_in b s) (second ∷ []) mem log n mem log n
-    skip_second = skips_opposed (theory_in b s) (proper_in b s e) mem log n second first g (omega (arith, atoms_in b s)) (omega arith)
+    skip_second : T (written_of mem second) ⊎ T (written_of mem first) → Tried (theory_said table) (second ∷ []) mem log n mem log n
+    skip_second = skips_opposed (theory_said table) (proper_in table) mem log n second first g (omega (arith, atoms_in table)) (omega arith)
 
     module _ {u : Bool} (eu : u ≡ (written_of mem first or written_of mem second)) where
-      pub opposed : u ≡ true → Tried (theory_in b s) (first ∷ second ∷ []) mem log n mem log n
+      pub opposed : u ≡ true → Tried (theory_said table) (first ∷ second ∷ []) mem log n mem log n
       opposed h =
-          let w = or_elim _ _ (of_true _ (sym eu ∙ h)) in tried_on (theory_in b s) (skip_first w) (skip_second (⊎_elim inr inl w))
+          let w = or_elim _ _ (of_true _ (sym eu ∙ h)) in tried_on (theory_said table) (skip_first w) (skip_second (⊎_elim inr inl w))
 
       pub first_open : u ≡ false → written_of mem first ≡ false
       first_open h = false_of _ (λ w. of_false _ (sym eu ∙ h) (or_left _ _ w))
 
-      pub second_open : u ≡ false → (mem' log' : List ℕ) (n' : ℕ) → Tried (theory_in b s) (first ∷ []) mem log n mem' log' n' → n' ≡ n → written_of mem' second ≡ false
-      second_open h mem' log' n' f c =
-          still_written (theory_in b s) mem log mem' log' n n' first g f c second ∙ false_of _ (λ w. of_false _ (sym eu ∙ h) (or_right _ _ w))
+      pub second_open : u ≡ false → {mem' log' : List ℕ} {n' : ℕ} → Tried (theory_said table) (first ∷ []) mem log n mem' log' n' → n' ≡ n → written_of mem' second ≡ false
+      second_open h {mem'} {log'} {n'} f c =
+          still_written (theory_said table) mem log mem' log' n n' first g f c second ∙ false_of _ (λ w. of_false _ (sym eu ∙ h) (or_right _ _ w))
 
-  pub first_written : (mem log : List ℕ) (n : ℕ) → Logged (theory_in b s) mem log n → (mem' log' : List ℕ) (n' : ℕ) → Tried (theory_in b s) (first ∷ []) mem log n mem' log' n'
-      → (n' ≡ n → ⊥) → Tried (theory_in b s) (first ∷ second ∷ []) mem log n mem' log' n'
-  first_written mem log n g mem' log' n' f c =
-      tried_on (theory_in b s) f (skip_second mem' log' n' f.logged (inr (now_written (theory_in b s) mem log mem' log' n n' first g f c)))
+  pub first_written : {mem log : List ℕ} {n : ℕ} → Logged (theory_said table) mem log n → {mem' log' : List ℕ} {n' : ℕ} → Tried (theory_said table) (first ∷ []) mem log n mem' log' n'
+      → (n' ≡ n → ⊥) → Tried (theory_said table) (first ∷ second ∷ []) mem log n mem' log' n'
+  first_written {mem} {log} {n} g {mem'} {log'} {n'} f c =
+      tried_on (theory_said table) f (skip_second f.logged (inr (now_written (theory_said table) mem log mem' log' n n' first g f c)))
 
 -- the literals of two lists tried one after the other
 pub tried_literals : {d : Theory} {m l m' l' m'' l'' : List ℕ} {n n' n'' : ℕ} (qs rs : List ℕ) → Tried d (with_tags tag_count qs) m l n m' l' n'

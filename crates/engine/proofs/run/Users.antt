@@ -13,9 +13,8 @@ use Rattle.logic.specs.Theory.{Theory, complement, is_strict, kind_of, head_of}
 use Rattle.logic.specs.Reading.{visits, visited, heads, with_tags}
 use Rattle.logic.proofs.Lists.{pick_append}
 use Rattle.logic.proofs.Theories.{heads_below}
-use Rattle.table.specs.declared.format.Sizes.{Sizes}
-use Rattle.table.specs.Format.{theory_in}
-use Rattle.table.specs.Refusals.{Legal}
+use Rattle.table.specs.declared.accepted.Table.{Table}
+use Rattle.table.specs.Tables.{theory_said}
 use Rattle.memory.specs.Layout.{tag_count}
 use Rattle.memory.specs.Memory.{users}
 use Rattle.memory.specs.Api.{UsesAt}
@@ -61,10 +60,10 @@ module _ (d : Theory) (b : Bool) (r : ℕ) (v strict : Bool) (fv : v ≡ (isnt (
   rule_visited h q e f =
       tried_same (ap (λ z. with_tags tag_count (z ∷ complement z ∷ [])) e ∙ ap (λ z. with_tags tag_count (heads d (cond z (r ∷ []) []))) (sym (test_of ∙ h))) f
 
-pub head_small : (b : List ℕ) (s : Sizes) → Legal b s → (r q : ℕ) → r < s.rules → q ≡ head_of (theory_in b s) r → q < 2 * s.atoms
-head_small b s e r q h f =
-    let k : head_of (theory_in b s) r < 2 * (theory_in b s).atoms = heads_below (theory_in b s) (proper_in b s e) r (omega (arith, rules_in b s)) in
-    omega (arith, atoms_in b s)
+pub head_small : (table : Table) (r q : ℕ) → r < table.sizes.rules → q ≡ head_of (theory_said table) r → q < 2 * table.sizes.atoms
+head_small table r q h f =
+    let k : head_of (theory_said table) r < 2 * (theory_said table).atoms = heads_below (theory_said table) (proper_in table) r (omega (arith, rules_in table)) in
+    omega (arith, atoms_in table)
 
 -- The loop over the uses: those before k were tried.
 pub record Using (d : Theory) (b : Bool) (p : ℕ) (mem₀ log₀ : List ℕ) (n₀ first : ℕ) (mem log : List ℕ) (n k : ℕ) : Type 0 where
@@ -72,7 +71,7 @@ pub record Using (d : Theory) (b : Bool) (p : ℕ) (mem₀ log₀ : List ℕ) (n
   pub to : k ≤ first + length (users d p)
   pub tried : Tried d (with_tags tag_count (heads_if d b (take (k - first) (users d p)))) mem₀ log₀ n₀ mem log n
 
-module _ (d : Theory) (b : Bool) (p : ℕ) (mem₀ log₀ : List ℕ) (n₀ : ℕ) {first end : ℕ} (at : UsesAt d p first end) where
+module _ {d : Theory} {b : Bool} {p : ℕ} {mem₀ log₀ : List ℕ} {n₀ first end : ℕ} (at : UsesAt d p first end) where
   pub using_start : Logged d mem₀ log₀ n₀ → Using d b p mem₀ log₀ n₀ first mem₀ log₀ n₀ first
   unfolding with_tags heads pick
   using_start g =
@@ -82,16 +81,16 @@ module _ (d : Theory) (b : Bool) (p : ℕ) (mem₀ log₀ : List ℕ) (n₀ : �
         tried = tried_same (ap (λ i. with_tags tag_count (heads_if d b (take i (users d p)))) (let z : 0 ≡ first - first = omega arith in z)) (tried_none d mem₀ log₀ n₀ g);
       }
 
-  module _ (mem log : List ℕ) (n k : ℕ) (g : Using d b p mem₀ log₀ n₀ first mem log n k) (more : k < end) where
+  module _ {mem log : List ℕ} {n k : ℕ} (g : Using d b p mem₀ log₀ n₀ first mem log n k) (more : k < end) where
     inside : k - first < length (users d p)
     inside = omega (arith, at.finish, g.from)
 
-    pub use_below : (r : ℕ) → r ≡ get_or (users d p) (k - first) 0 → r < d.rules
-    use_below r f = subst (λ z. z < d.rules) (sym f) (user_below d p (k - first) inside)
+    pub use_below : {r : ℕ} → r ≡ get_or (users d p) (k - first) 0 → r < d.rules
+    use_below f = subst (λ z. z < d.rules) (sym f) (user_below d p (k - first) inside)
 
-    pub using_next : (r : ℕ) → r ≡ get_or (users d p) (k - first) 0 → (mem' log' : List ℕ) (n' : ℕ) → Tried d (with_tags tag_count (heads_if d b (r ∷ []))) mem log n mem' log' n'
+    pub using_next : {r : ℕ} → r ≡ get_or (users d p) (k - first) 0 → {mem' log' : List ℕ} {n' : ℕ} → Tried d (with_tags tag_count (heads_if d b (r ∷ []))) mem log n mem' log' n'
         → Using d b p mem₀ log₀ n₀ first mem' log' n' (k + 1)
-    using_next r f mem' log' n' t =
+    using_next {r} f t =
         record {
           from = omega (arith, g.from);
           to = omega (arith, at.finish);
@@ -104,8 +103,8 @@ module _ (d : Theory) (b : Bool) (p : ℕ) (mem₀ log₀ : List ℕ) (n₀ : �
             let i : suc (k - first) ≡ k + 1 - first = omega (arith, g.from) in
             ap (λ z. take (k - first) (users d p) ++ (z ∷ [])) f ∙ sym (take-suc (users d p) (k - first) 0 inside) ∙ ap (λ z. take z (users d p)) i
 
-  pub using_end : (mem log : List ℕ) (n k : ℕ) → Using d b p mem₀ log₀ n₀ first mem log n k → end ≤ k
+  pub using_end : {mem log : List ℕ} {n k : ℕ} → Using d b p mem₀ log₀ n₀ first mem log n k → end ≤ k
       → Tried d (with_tags tag_count (heads d (visited d (family_if b) p))) mem₀ log₀ n₀ mem log n
-  using_end mem log n k g h =
+  using_end {k = k} g h =
       tried_same
       (ap (λ (z : List ℕ). with_tags tag_count (heads_if d b z)) (take_all (k - first) (users d p) (omega (arith, at.finish))) ∙ ap (with_tags tag_count) (heads_visited d b p)) g.tried

@@ -71,11 +71,11 @@ pub record Stands (d : Theory) (budget : ℕ) (mem₀ log₀ mem log : List ℕ)
 abbrev Counted : Counts → ℕ → Tally → Type 0
 Counted k n t = (k.lines ≡ n) × (k.worked ≡ t.worked) × (k.spent ≡ t.spent)
 
-module _ (d : Theory) (p : T (proper d)) (budget : ℕ) where
-  pub stands_start : (mem log : List ℕ) (n start : ℕ) → Logged d mem log n → take n log ≡ initial (plain_system d) → ((x : ℕ) → held_of mem x ≡ false)
+module _ {d : Theory} (p : T (proper d)) {budget : ℕ} where
+  pub stands_start : {mem log : List ℕ} {n start : ℕ} → Logged d mem log n → take n log ≡ initial (plain_system d) → ((x : ℕ) → held_of mem x ≡ false)
       → start ≡ size d → start ≤ budget → Stands d budget mem log mem log n (record { worked = 0; spent = start })
   unfolding some_of system_of
-  stands_start mem log n start g e h f l =
+  stands_start {mem} {log} {n} {start} g e h f l =
       record {
         done = [];
         todo = initial (plain_system d);
@@ -90,7 +90,7 @@ module _ (d : Theory) (p : T (proper d)) (budget : ℕ) where
         kept = kept_none mem;
       }
 
-  module _ (mem₀ log₀ mem log : List ℕ) (n : ℕ) (t : Tally) (g : Stands d budget mem₀ log₀ mem log n t) where
+  module _ {mem₀ log₀ mem log : List ℕ} {n : ℕ} {t : Tally} (g : Stands d budget mem₀ log₀ mem log n t) where
     -- the run's outcome, as it is answered
     ending : (b : Bool) (todo : List ℕ) → g.todo ≡ todo → run (plain_system d) budget ≡ outcome b g.done todo t.spent → (k : Counts) → Counted k n t
         → Worked (run (plain_system d) budget) mem₀ log₀ mem log (cond b (Finished k) (Stopped k))
@@ -158,10 +158,10 @@ module _ (d : Theory) (p : T (proper d)) (budget : ℕ) where
       next_cost : due d mem x ≡ cost_after (plain_system d) g.done x
       next_cost = ap₂ (λ h k. (plain_system d).cost h k x) (fun_ext g.held) (fun_ext adds_done)
 
-      module _ (mem' log' : List ℕ) (n' : ℕ) (t' : Tally) (e : Stepped d budget mem log n t mem' log' n' t') where
+      module _ {mem' log' : List ℕ} {n' : ℕ} {t' : Tally} (e : Stepped d budget mem log n t mem' log' n' t') where
         pub stands_stopped : t'.worked ≡ t.worked → (k : Counts) → Counted k n' t' → Worked (run (plain_system d) budget) mem₀ log₀ mem' log' (Stopped k)
         stands_stopped h k c =
-            let (less, em, el, en, et) = step_stopped d budget mem log n t mem' log' n' t' e h in
+            let (less, em, el, en, et) = step_stopped e h in
             subst (λ l. Worked (run (plain_system d) budget) mem₀ log₀ mem' l (Stopped k)) (sym el)
             (subst (λ m. Worked (run (plain_system d) budget) mem₀ log₀ m log (Stopped k)) (sym em)
             (ending false (x ∷ split.0) split.1
@@ -171,7 +171,7 @@ module _ (d : Theory) (p : T (proper d)) (budget : ℕ) where
 
         pub stands_next : (t'.worked ≡ t.worked → ⊥) → Stands d budget mem₀ log₀ mem' log' n' t'
         stands_next h =
-            let (fit, k, et) = step_worked d budget mem log n t mem' log' n' t' e h in
+            let (fit, k, et) = step_worked e h in
             let ew : t'.worked ≡ t.worked + 1 = ap (λ z. z.worked) et in
             let es : t'.spent ≡ t.spent + due d mem x = ap (λ z. z.spent) et in
             record {
@@ -195,4 +195,4 @@ module _ (d : Theory) (p : T (proper d)) (budget : ℕ) where
             }
 
         pub stands_less : (t'.worked ≡ t.worked → ⊥) → t'.worked ≡ t.worked + 1
-        stands_less h = ap (λ z. z.worked) (step_worked d budget mem log n t mem' log' n' t' e h).2
+        stands_less h = ap (λ z. z.worked) (step_worked e h).2

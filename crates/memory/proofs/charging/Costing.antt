@@ -1,13 +1,17 @@
 -- The cost of a conclusion, by the uses of its literal and the words of the rules that use it. Assumes nothing.
 use Prim.Native.Nat.{ℕ, zero, suc, ◌+◌, ◌-◌, ◌*◌, ◌/◌, ◌%◌, ◌≤◌, ◌<◌}
-use native.Mathlib.Nat.{add-zero, le_antisymm, mod-lt}
+use native.Mathlib.Nat.{add-zero, mod-lt}
 use native.Mathlib.Omega.{arith}
 use mathlib.Core.Path.{◌≡◌, refl, sym, ◌∙◌, ap, ap₂, subst}
 use mathlib.Core.Logic.{◌⊎◌, inl, inr, ⊎_elim}
 use mathlib.Core.Bool.{Bool, true, false, cond}
-use mathlib.Core.List.{List, [], ◌∷◌, ◌++◌, map}
+use mathlib.Core.List.{List, [], ◌∷◌, map}
 use lib.Dec.{T, ltb, ltb→lt, lt→ltb, eqb, eqb→eq, eqb_refl, eqb-suc-suc}
 use lib.ListN.{length, get_or}
+use Rattle.std.specs.List.{range_with_len, sum, sum_by}
+use Rattle.std.proofs.Common.{add-one, zero-add}
+use Rattle.std.proofs.lemmas.List.Sums.{sum_by-append, sum_by-cons}
+use Rattle.std.proofs.lemmas.List.FromFn.{sum_by-map-range_with_len_more}
 use Rattle.logic.specs.Tests.{◌and◌, ◌or◌, isnt, member, distinct, total, weigh, count_below, upto, pick}
 use Rattle.logic.specs.Theory.{Theory, kind_of, body_of, is_strict}
 use Rattle.logic.specs.Inference.{all_have, one_has}
@@ -15,7 +19,7 @@ use Rattle.logic.specs.Reading.{visits, visited, decided, decides, naming, cost_
 use Rattle.logic.specs.Plain.{plain_system}
 use Rattle.logic.proofs.Tests.{and_intro, and_left, and_right, at_most, cond_false, cond_true, eq→eqb, false_or, isnt_elim, isnt_intro, none_above, of_false, or_false, or_left, or_right, some_of_intro, test_cases, true_of, true_or}
 use Rattle.logic.proofs.Lists.{filled_intro, pick_append, pick_more}
-use Rattle.logic.proofs.Sums.{count_upto, total_add, total_ext, total_next, weigh_both, weigh_false, weigh_true}
+use Rattle.logic.proofs.Sums.{count_upto, total_add, total_ext, weigh_both, weigh_false, weigh_true}
 use Rattle.logic.proofs.Bodies.{all_same, one_same}
 use Rattle.logic.proofs.Literals.{join_split, split_below}
 use Rattle.table.specs.declared.format.Sizes.{Sizes}
@@ -27,47 +31,37 @@ use Rattle.memory.specs.Layout.{tag_count, field_size}
 use Rattle.memory.specs.Fields.{has, size_f, kind_f, naming_f, uses_f}
 use Rattle.memory.specs.Memory.{view, use_at, held_of, users, uses_from, virtual, Ready}
 use Rattle.memory.specs.Api.{adds, UsesAt, UsesIn, cost_in}
-use Rattle.memory.specs.Deciding.{decided_by, charge_by, cost_by}
+use Rattle.memory.specs.Deciding.{decided_by, charge_by}
 use Rattle.memory.proofs.inference.Counting.{pick_all}
 use Rattle.memory.proofs.inference.Following.{fires_defeasibly, out_defeasibly}
 use Rattle.memory.proofs.index.Kinds.{strict_number}
 use Rattle.memory.proofs.uses.Users.{use_is, user_below, uses_begin, uses_finish}
 
--- a sum over a list
-sum_of : (ℕ → ℕ) → List ℕ → ℕ
-sum_of f [] = 0
-sum_of f (x ∷ l) = f x + sum_of f l
-
-sum_append : (f : ℕ → ℕ) (l k : List ℕ) → sum_of f (l ++ k) ≡ sum_of f l + sum_of f k
-unfolding sum_of
-sum_append f [] k = omega arith
-sum_append f (x ∷ l) k = let e : sum_of f (l ++ k) ≡ sum_of f l + sum_of f k = sum_append f l k in omega arith
-
-sum_map : (f g : ℕ → ℕ) (l : List ℕ) → sum_of f (map g l) ≡ sum_of (λ k. f (g k)) l
-unfolding sum_of
+-- the sums over a list (std's `sum_by`)
+sum_map : (f g : ℕ → ℕ) (l : List ℕ) → sum_by f (map g l) ≡ sum_by (λ k. f (g k)) l
 sum_map f g [] = refl
-sum_map f g (x ∷ l) = ap (f (g x) +◌) (sum_map f g l)
+sum_map f g (x ∷ l) = sum_by-cons f (g x) (map g l) ∙ ap (f (g x) +◌) (sum_map f g l) ∙ sym (sum_by-cons (λ k. f (g k)) x l)
 
 -- the sum over the numbers below n that pass
-sum_pick : (n : ℕ) (p : ℕ → Bool) (f : ℕ → ℕ) → sum_of f (pick (upto n) p) ≡ total n (λ k. weigh (p k) (f k))
-unfolding sum_of total upto pick
+sum_pick : (n : ℕ) (p : ℕ → Bool) (f : ℕ → ℕ) → sum_by f (pick (upto n) p) ≡ total n (λ k. weigh (p k) (f k))
+unfolding total upto pick
 sum_pick zero p f = refl
 sum_pick (suc n) p f =
-    ap (sum_of f) (pick_append (upto n) (n ∷ []) p) ∙ sum_append f (pick (upto n) p) _ ∙ ap₂ ◌+◌ (sum_pick n p f) (one (p n))
+    ap (sum_by f) (pick_append (upto n) (n ∷ []) p) ∙ sum_by-append f (pick (upto n) p) _ ∙ ap₂ ◌+◌ (sum_pick n p f) (one (p n))
   where
-    one : (b : Bool) → sum_of f (cond b (n ∷ []) []) ≡ weigh b (f n)
-    one true = add-zero (f n) ∙ sym (weigh_true true (f n) tt)
+    one : (b : Bool) → sum_by f (cond b (n ∷ []) []) ≡ weigh b (f n)
+    one true = zero-add (f n) ∙ sym (weigh_true true (f n) tt)
     one false = sym (weigh_false false (f n) (λ t. t))
 
-sum_upto : (n : ℕ) (f : ℕ → ℕ) → sum_of f (upto n) ≡ total n f
-unfolding sum_of total upto
+sum_upto : (n : ℕ) (f : ℕ → ℕ) → sum_by f (upto n) ≡ total n f
+unfolding total upto
 sum_upto zero f = refl
-sum_upto (suc n) f = sum_append f (upto n) (n ∷ []) ∙ ap₂ ◌+◌ (sum_upto n f) (add-zero (f n))
+sum_upto (suc n) f = sum_by-append f (upto n) (n ∷ []) ∙ ap₂ ◌+◌ (sum_upto n f) (zero-add (f n))
 
 -- the sum over places is the sum over what stands there
 sum_listed : (n m : ℕ) (g : ℕ → ℕ) (p : ℕ → Bool) (f : ℕ → ℕ) → map g (upto n) ≡ pick (upto m) p
     → total n (λ k. f (g k)) ≡ total m (λ k. weigh (p k) (f k))
-sum_listed n m g p f e = sym (sum_upto n (λ k. f (g k))) ∙ sym (sum_map f g (upto n)) ∙ ap (sum_of f) e ∙ sum_pick m p f
+sum_listed n m g p f e = sym (sum_upto n (λ k. f (g k))) ∙ sym (sum_map f g (upto n)) ∙ ap (sum_by f) e ∙ sum_pick m p f
 
 -- what is decided newly, by which of the two tests grows
 grown_all : (a b o : Bool) → ((b or o) and isnt (a or o)) ≡ (isnt a and isnt o and b)
@@ -225,23 +219,11 @@ module _ (d : Theory) (m : List ℕ) (ready : Ready d m) (p t : ℕ) (tag : t < 
           total_ext d.rules _ _ (λ r l. defeasible_part (two_or_three t h tag) r l (apart r l)) ∙ total_add d.rules _ _ in
           added _ _ _ _ _ s v z ∙ sym c
 
--- the cost as the loop over the uses keeps it
-module _ (w : ℕ → ℕ → ℕ) (u : ℕ → ℕ) (t first : ℕ) where
-  pub cost_none : 1 ≡ cost_by w u t first first
-  unfolding total
-  cost_none = let e : first - first ≡ 0 = omega arith in sym (ap (λ n. 1 + total n (λ j. charge_by w t (u (first + j)))) e)
-
-  pub cost_next : (k : ℕ) {sum y : ℕ} → first ≤ k → sum ≡ cost_by w u t first k → y ≡ charge_by w t (u k) → sum + y ≡ cost_by w u t first (k + 1)
-  cost_next k {sum} {y} h e g =
-      let a : k + 1 - first ≡ k - first + 1 = omega arith in
-      let c : first + (k - first) ≡ k = omega arith in
-      let n : total (k + 1 - first) (λ j. charge_by w t (u (first + j))) ≡ total (k - first) (λ j. charge_by w t (u (first + j))) + charge_by w t (u k) =
-      ap (λ i. total i (λ j. charge_by w t (u (first + j)))) a ∙ total_next (k - first) (λ j. charge_by w t (u (first + j)))
-      ∙ ap (λ i. total (k - first) (λ j. charge_by w t (u (first + j))) + charge_by w t (u i)) c in
-      omega arith
-
-  pub cost_end : {k end sum : ℕ} → k ≤ end → end ≤ k → sum ≡ cost_by w u t first k → sum ≡ cost_by w u t first end
-  cost_end a z g = g ∙ ap (cost_by w u t first) (le_antisymm a z)
+-- the sum over a range, as the code takes it
+pub range_total : (f : ℕ → ℕ) (a n : ℕ) → sum (map f (range_with_len a n)) ≡ total n (λ k. f (a + k))
+unfolding total
+range_total f a zero = refl
+range_total f a (suc n) = ap (λ k. sum (map f (range_with_len a k))) (sym (add-one n)) ∙ sum_by-map-range_with_len_more (λ x. x) f a n (a + n) refl ∙ ap (◌+ f (a + n)) (range_total f a n)
 
 -- a conclusion's cost, by the uses of its literal
 module _ (b : List ℕ) (s : Sizes) (m : List ℕ) (x : ℕ) (accepted : Legal b s) (ready : Ready (theory_in b s) m) (small : x < tag_count * (2 * s.atoms)) where
@@ -290,10 +272,10 @@ module _ (b : List ℕ) (s : Sizes) (m : List ℕ) (x : ℕ) (accepted : Legal b
 
 -- what a use adds, as it is read
 module _ (w : ℕ → ℕ → ℕ) (t r : ℕ) where
-  pub read_definite : {k x : ℕ} → t < 2 → k ≡ w kind_f r → x ≡ weigh (eqb k 0) 1 → x ≡ charge_by w t r
+  pub read_definite : {b : Bool} {x : ℕ} → t < 2 → b ≡ eqb (w kind_f r) 0 → x ≡ weigh b 1 → x ≡ charge_by w t r
   unfolding charge_by
   read_definite h e f =
-      f ∙ ap (λ k. weigh (eqb k 0) 1) e ∙ sym (cond_true (ltb t 2) (weigh (eqb (w kind_f r) 0) 1) (1 + weigh (decided_by w t r) (w naming_f r)) (lt→ltb t 2 h))
+      f ∙ ap (λ b. weigh b 1) e ∙ sym (cond_true (ltb t 2) (weigh (eqb (w kind_f r) 0) 1) (1 + weigh (decided_by w t r) (w naming_f r)) (lt→ltb t 2 h))
 
   module _ (h : 2 ≤ t) where
     later : charge_by w t r ≡ 1 + weigh (decided_by w t r) (w naming_f r)

@@ -5,14 +5,20 @@ use mathlib.Core.Path.{◌≡◌, refl, sym, ◌∙◌, ap, ap₂}
 use mathlib.Core.Logic.{◌⊎◌, inl, inr, ⊎_elim}
 use mathlib.Core.Bool.{Bool, true, false, cond, not}
 use lib.Dec.{T, eqb, eqb→eq, eqb_refl, ltb, ltb→lt, lt→ltb}
+use denote.Enum.Bare.{sameb}
 use Rattle.logic.specs.Tests.{◌and◌, ◌or◌, isnt}
-use Rattle.logic.specs.Standing.{Standing, firing, out, waiting, first_fit}
-use Rattle.logic.proofs.Tests.{and_intro, and_left, and_right, at_most, cond_false, cond_true, eq→eqb, isnt_elim, isnt_intro, none_above, or_elim, or_left, or_right, test_cases, test_eq}
+use Rattle.logic.specs.Standing.{Standing, firing, out, waiting}
+use Rattle.logic.proofs.Tests.{and_intro, and_left, and_right, at_most, cond_false, cond_true, eq→eqb, false_of, isnt_elim, isnt_intro, or_elim, or_left, or_right, test_cases, test_eq, true_of}
 use Rattle.logic.proofs.Standing.{fit_firing, fit_waiting, out_holds, out_not_firing, waiting_not_firing, waiting_not_out}
+use Rattle.standing.specs.declared.answer.Standing as answer
+use Rattle.standing.specs.declared.answer.Standing.TheVariants.{Firing, Out, Waiting}
+use Rattle.standing.specs.contracts.answer.Standing.{the_type}
+use Rattle.standing.specs.Answers.{meant}
 use Rattle.memory.specs.Layout.{tag_count}
 use Rattle.memory.specs.Fields.{has, size_f}
 use Rattle.memory.specs.Api.{Lacks}
 use Rattle.memory.specs.Deciding.{standing_with, decided_by, decided_to}
+use Rattle.memory.specs.Memory.{NeverBothAt}
 use Rattle.memory.specs.Visits.{Grown, threshold, just_reached}
 use Rattle.memory.proofs.visit.Steps.{tag_cases}
 
@@ -44,6 +50,26 @@ module _ (w : ℕ → ℕ → ℕ) (t r : ℕ) where
 
   pub to_waiting : decided_to w t r ≡ waiting → decided_by w t r ≡ false
   to_waiting = made_waiting (decided_by w t r) (eqb t 2)
+
+-- and what the tests of that say
+pub waits : (x : answer.Standing) {y : Standing} → meant x ≡ y → not (sameb the_type x Waiting) ≡ false → y ≡ waiting
+unfolding meant
+waits Firing e n = cc
+waits Out e n = cc
+waits Waiting e n = sym e
+
+module _ (w : ℕ → ℕ → ℕ) (t r : ℕ) where
+  pub undecided_yet : (x : answer.Standing) → meant x ≡ decided_to w t r → sameb the_type x Waiting ≡ true → decided_by w t r ≡ false
+  unfolding meant
+  undecided_yet Firing e n = cc
+  undecided_yet Out e n = cc
+  undecided_yet Waiting e n = to_waiting w t r (sym e)
+
+  pub decided_now : (x : answer.Standing) → meant x ≡ decided_to w t r → sameb the_type x Waiting ≡ false → T (decided_by w t r)
+  unfolding meant
+  decided_now Firing e n = (to_firing w t r (sym e)).0
+  decided_now Out e n = (to_out w t r (sym e)).0
+  decided_now Waiting e n = cc
 
 -- An antecedent that a rule lacks decides it exactly if the rule's word is just there.
 JustTurns : ℕ → Type 0
@@ -77,21 +103,8 @@ pub just_decided : (w v : ℕ → ℕ → ℕ) (t r : ℕ) → 2 ≤ t → t < t
 unfolding JustTurns
 just_decided w v t r lo hi = tag_cases JustTurns just_firing just_out t lo hi w v r
 
-not_isnt_of : (b : Bool) → not (isnt b) ≡ b
-unfolding isnt
-not_isnt_of true = refl
-not_isnt_of false = refl
-
-some_above : (n : ℕ) → not (eqb n 0) ≡ ltb 0 n
-some_above n = ap not (sym (none_above n)) ∙ not_isnt_of (ltb 0 n)
-
 -- how a rule stands, by its words
 module _ (w : ℕ → ℕ → ℕ) (r : ℕ) where
-  pub standing_read : (plus minus : ℕ) {a n f : ℕ} {x : Standing} → a ≡ w (has 2) r → n ≡ w size_f r → f ≡ w (has 3) r → x ≡ first_fit (eqb (a + plus) n) (not (eqb (f + minus) 0))
-      → x ≡ standing_with w plus minus r
-  standing_read plus minus {f = f} ea en ef ex =
-      ex ∙ ap₂ first_fit (ap₂ (λ y z. eqb (y + plus) z) ea en) (some_above (f + minus) ∙ ap (λ y. ltb 0 (y + minus)) ef)
-
   pub firing_words : standing_with w 0 0 r ≡ firing → w (has 2) r ≡ w size_f r
   firing_words e = omega (arith, eqb→eq (w (has 2) r + 0) (w size_f r) ((fit_firing (eqb (w (has 2) r + 0) (w size_f r)) (ltb 0 (w (has 3) r + 0))).1 e))
 
@@ -109,14 +122,33 @@ module _ (w : ℕ → ℕ → ℕ) (r : ℕ) where
         ⊎_elim (λ z. z) (λ f. absurd (n (or_right (eqb (w (has 2) r + 0) (w size_f r)) _ (lt→ltb 0 (w (has 3) r + 0) (omega arith))))) (none_or_some (w (has 3) r)),
       )
 
+  -- what the tests of a standing say that was read of them
+  pub is_firing : (x : answer.Standing) → meant x ≡ standing_with w 0 0 r → sameb the_type x Firing ≡ eqb (w (has 2) r) (w size_f r)
+  unfolding meant
+  is_firing Firing e = sym (true_of _ (eq→eqb _ _ (firing_words (sym e))))
+  is_firing Out e = sym (false_of _ (λ u. not_firing_words (sym e) (eqb→eq _ _ u)))
+  is_firing Waiting e = sym (false_of _ (λ u. (waiting_words (sym e)).0 (eqb→eq _ _ u)))
+
+  pub not_out : (x : answer.Standing) → meant x ≡ standing_with w 0 0 r → NeverBothAt w r → not (sameb the_type x Out) ≡ eqb (w (has 3) r) 0
+  unfolding meant
+  not_out Firing e n = sym (true_of _ (eq→eqb _ 0 (omega (arith, n, firing_words (sym e)))))
+  not_out Out e n = sym (false_of _ (λ u. let z : w (has 3) r ≡ 0 = eqb→eq _ _ u in omega (arith, out_words (sym e))))
+  not_out Waiting e n = sym (true_of _ (eq→eqb _ 0 (waiting_words (sym e)).1))
+
   -- one antecedent more, of a rule that is decided already
   module _ (t : ℕ) where
-    pub fires_already : standing_with w 0 0 r ≡ firing → waiting ≡ decided_to w t r
+    fires_already : standing_with w 0 0 r ≡ firing → waiting ≡ decided_to w t r
     fires_already e = sym (cond_false (decided_by w t r) _ _ (λ u. isnt_elim _ (and_left _ _ (and_left _ _ u)) (eq→eqb _ _ (firing_words e))))
 
-    pub out_already : standing_with w 0 0 r ≡ out → waiting ≡ decided_to w t r
+    out_already : standing_with w 0 0 r ≡ out → waiting ≡ decided_to w t r
     out_already e =
         sym (cond_false (decided_by w t r) _ _ (λ u. let z : w (has 3) r ≡ 0 = eqb→eq _ _ (and_right _ _ (and_left _ _ u)) in absurd (omega (arith, out_words e))))
+
+    pub decided_already : (x : answer.Standing) → meant x ≡ standing_with w 0 0 r → not (sameb the_type x Waiting) ≡ true → meant Waiting ≡ decided_to w t r
+    unfolding meant
+    decided_already Firing e n = fires_already (sym e)
+    decided_already Out e n = out_already (sym e)
+    decided_already Waiting e n = cc
 
     -- and of one that waits
     module _ (e : standing_with w 0 0 r ≡ waiting) where

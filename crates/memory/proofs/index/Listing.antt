@@ -1,14 +1,18 @@
 -- The turns of the loops that mark the facts and the first pairs. Assumes nothing.
 use Prim.Native.Nat.{ℕ, ◌+◌, ◌*◌, ◌≤◌, ◌<◌}
-use native.Mathlib.Nat.{le_antisymm, eq-or-lt_of_le}
+use native.Mathlib.Nat.{eq-or-lt_of_le}
 use native.Mathlib.Omega.{arith}
 use mathlib.Core.Path.{◌≡◌, refl, sym, ◌∙◌, ap, subst}
 use mathlib.Core.Logic.{⊎_elim}
 use mathlib.Core.List.{List}
 use lib.Dec.{eqb, eqb→eq}
-use lib.ListN.{length, set, length-set, drop}
+use Rattle.std.proofs.Common.{rules}
+use Rattle.std.proofs.lemmas.List.{places, length-append, length-take, length-drop, length-replicate, get_or-replicate}
+use Rattle.std.proofs.lemmas.Slice.{drop-put_mid}
+use borrow.Rule.Slice.PartMut.{put_mid}
+use lib.ListN.{length, set, length-set, drop, get_or, replicate, take}
 use Rattle.logic.specs.Tests.{some, weigh}
-use Rattle.logic.proofs.Tests.{eq→eqb, lt_suc_cases, some_elim, some_intro, test_cases, test_eq}
+use Rattle.logic.proofs.Tests.{at_most, eq→eqb, lt_suc_cases, some_elim, some_intro, test_cases, test_eq}
 use Rattle.logic.proofs.Sums.{weigh_false, weigh_true}
 use Rattle.table.specs.declared.format.Sizes.{Sizes}
 use Rattle.table.specs.declared.format.Pair.{Pair}
@@ -16,17 +20,14 @@ use Rattle.table.specs.declared.format.Literal.{Literal}
 use Rattle.table.specs.Format.{fact_at, pair_at, facts_from, theory_in}
 use Rattle.table.specs.Refusals.{Legal}
 use Rattle.table.proofs.Legal.{limited, ranged, right_in_lem, stronger_below}
-use Rattle.memory.specs.Layout.{field_count, field_size, memory_size}
+use Rattle.memory.specs.Layout.{field_count, field_size, uses_base, memory_size}
 use Rattle.memory.specs.Fields.{first_f, fact_f}
 use Rattle.memory.specs.Memory.{view, use_at}
 use Rattle.memory.specs.Indexing.{Only, Facts, Firsts}
-use Rattle.memory.proofs.Views.{kept_none, kept_then, rest_set, use_set, view_set, view_set_field, view_set_index}
+use Rattle.memory.proofs.Views.{kept_none, rest_set, use_same, use_set, view_in, view_same, view_set, view_set_field, view_set_index}
 
 pub only_none : (f : ℕ) (m : List ℕ) → Only f m m
 only_none f m = record { others = λ g j n. refl; uses = λ k. refl; kept = kept_none m }
-
-pub only_on : {f : ℕ} {m n o : List ℕ} → Only f m n → Only f n o → Only f m o
-only_on k g = record { others = λ h j ne. g.others h j ne ∙ k.others h j ne; uses = λ z. g.uses z ∙ k.uses z; kept = kept_then k.kept g.kept }
 
 -- a store in the one field
 pub only_next : (f i v : ℕ) {m n o : List ℕ} → f < field_count → i < field_size → o ≡ set n (field_size * f + i) v → Only f m n → Only f m o
@@ -44,11 +45,48 @@ stored f i v n o hf hi l e = ap (λ z. view z f i) e ∙ view_set n f i v hf hi 
 pub stored_not : (f i v : ℕ) (n o : List ℕ) → f < field_count → i < field_size → o ≡ set n (field_size * f + i) v → (j : ℕ) → (j ≡ i → ⊥) → view o f j ≡ view n f j
 stored_not f i v n o hf hi e j ne = ap (λ z. view z f j) e ∙ view_set_index n f i v hf hi f j ne
 
--- every word of a field, one after the other
-pub filled_next : (f v i : ℕ) {m n o : List ℕ} → f < field_count → i < field_size → memory_size ≤ length m → o ≡ set n (field_size * f + i) v → Only f m n × ((r : ℕ) → r < i → view n f r ≡ v)
-    → Only f m o × ((r : ℕ) → r < i + 1 → view o f r ≡ v)
-filled_next f v i {m} {n} {o} hf hi l e (k, a) =
-    (only_next f i v hf hi e k, λ r h. ⊎_elim (λ u. stored_not f i v n o hf hi e r (λ g. omega arith) ∙ a r u) (λ g. ap (view o f) g ∙ stored f i v n o hf hi (omega (arith, k.kept.size)) e) (lt_suc_cases r i (omega arith)))
+-- every word of a field, at once
+mid_below : (a k i : ℕ) (xs ys : List ℕ) → i < a → a ≤ length xs → get_or (put_mid a k xs ys) i 0 ≡ get_or xs i 0
+mid_below a k i xs ys h l = search (rules, places)
+
+mid_above : (a k i : ℕ) (xs ys : List ℕ) → a + k ≤ i → length ys ≡ k → a ≤ length xs → get_or (put_mid a k xs ys) i 0 ≡ get_or xs i 0
+mid_above a k i xs ys h e l = search (rules, places)
+
+mid_at : (a k i : ℕ) (xs ys : List ℕ) → i < k → length ys ≡ k → a ≤ length xs → get_or (put_mid a k xs ys) (a + i) 0 ≡ get_or ys i 0
+mid_at a k i xs ys h e l = search (rules, places)
+
+module _ (f v : ℕ) (m ys : List ℕ) (h : f < field_count) (l : memory_size ≤ length m) (e : ys ≡ replicate (length (take field_size (drop (field_size * f) m))) v) where
+  whole : length (take field_size (drop (field_size * f) m)) ≡ field_size
+  whole = simp (length-take, length-drop) (omega arith)
+
+  size : length ys ≡ field_size
+  size = ap length e ∙ length-replicate _ v ∙ whole
+
+  abbrev after : List ℕ
+  after = put_mid (field_size * f) field_size m ys
+
+  others : (g j : ℕ) → (g ≡ f → ⊥) → view after g j ≡ view m g j
+  others g j ne =
+      view_same m after g j
+      (λ hg hj. ⊎_elim (λ t. mid_below (field_size * f) field_size (field_size * g + j) m ys (omega arith) (omega arith))
+      (λ t. mid_above (field_size * f) field_size (field_size * g + j) m ys (omega arith) size (omega arith)) (at_most (g + 1) f))
+
+  uses : (k : ℕ) → use_at after k ≡ use_at m k
+  uses k = use_same m after k (λ t. mid_above (field_size * f) field_size (uses_base + k) m ys (omega arith) size (omega arith))
+
+  past : drop memory_size after ≡ drop memory_size m
+  past = drop-put_mid (field_size * f) field_size m ys memory_size (omega arith) (omega arith) size
+
+  filled_word : (r : ℕ) → r < field_size → view after f r ≡ v
+  filled_word r t =
+      view_in after f r h t ∙ mid_at (field_size * f) field_size r m ys t size (omega arith) ∙ ap (λ z. get_or z r 0) e
+      ∙ get_or-replicate _ r v 0 (omega (arith, whole))
+
+  pub filled : Only f m after × ((r : ℕ) → r < field_size → view after f r ≡ v)
+  filled = (record { others = others; uses = uses; kept = record { size = length-mid; rest = past } }, filled_word)
+    where
+      length-mid : length after ≡ length m
+      length-mid = simp (length-append, length-take, length-drop) (omega (arith, size))
 
 module _ (b : List ℕ) (s : Sizes) (a : Legal b s) where
   pub facts_none : (m : List ℕ) → ((q : ℕ) → view m fact_f q ≡ 0) → Facts (theory_in b s) 0 m m
@@ -94,9 +132,6 @@ module _ (b : List ℕ) (s : Sizes) (a : Legal b s) where
         marks : (q : ℕ) → q < field_size → view o fact_f q ≡ weigh (some (i + 1) (λ j. eqb (fact_at b s j).0 q)) 1
         marks q u = ⊎_elim (λ t. here q (eqb→eq q p.0 t)) (λ t. there q u (λ g. t (eq→eqb q p.0 g))) (test_cases (eqb q p.0))
 
-  pub facts_all : {m n : List ℕ} (i k : ℕ) → i ≤ k → k ≤ i → Facts (theory_in b s) i m n → Facts (theory_in b s) k m n
-  facts_all {m} {n} i k h l g = subst (λ z. Facts (theory_in b s) z m n) (le_antisymm h l) g
-
   pub firsts_none : (m : List ℕ) → ((r : ℕ) → r < field_size → view m first_f r ≡ s.pairs) → Firsts (theory_in b s) s.pairs m m
   unfolding theory_in
   firsts_none m e = record { only = only_none first_f m; first = λ i h l. absurd (omega arith); none = λ r h _. e r h }
@@ -139,7 +174,3 @@ module _ (b : List ℕ) (s : Sizes) (a : Legal b s) where
             let past : i + 1 ≤ j = ⊎_elim (λ x. absurd (g (ap (λ y. (pair_at b s y).stronger) (sym x) ∙ same))) (λ x. omega arith) (eq-or-lt_of_le u) in
             let r = k.first j (omega arith) v in
             (omega (arith, r.0), omega (arith, r.1), ap (λ z. (pair_at b s z).stronger) same_word ∙ r.2)
-
-  pub firsts_all : {m n o : List ℕ} (i : ℕ) → i ≤ 0 → Only first_f m n → Firsts (theory_in b s) i n o → Firsts (theory_in b s) 0 m o
-  firsts_all {m} {n} {o} i h k g =
-      subst (λ z. Firsts (theory_in b s) z m o) (le_antisymm h (omega arith)) (record { only = only_on k g.only; first = g.first; none = g.none })

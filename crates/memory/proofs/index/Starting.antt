@@ -1,7 +1,7 @@
 -- The start of a run: cleared words, the rules' virtual antecedents, and a memory that is ready. Assumes nothing.
 use Prim.Native.Nat.{ℕ, zero, suc, ◌+◌, ◌*◌, ◌/◌, ◌%◌, ◌≤◌, ◌<◌}
 use native.Mathlib.Omega.{arith}
-use native.Mathlib.Nat.{le_antisymm, not-suc-le-zero, le_of_suc-le-suc}
+use native.Mathlib.Nat.{not-suc-le-zero, le_of_suc-le-suc}
 use mathlib.Core.Path.{◌≡◌, refl, ◌∙◌, ap, subst}
 use mathlib.Core.Logic.{⊎_elim}
 use mathlib.Core.Bool.{Bool, false}
@@ -14,14 +14,13 @@ use Rattle.logic.specs.Theory.{complement, body_of}
 use Rattle.logic.proofs.Tests.{and_left, and_right, cond_false, lt_suc_cases, of_false, test_cases}
 use Rattle.table.specs.declared.format.Sizes.{Sizes}
 use Rattle.table.specs.Format.{theory_in}
-use Rattle.table.specs.Refusals.{Legal}
 use Rattle.memory.specs.Layout.{tag_count, field_count, field_size, memory_size}
 use Rattle.memory.specs.Fields.{has}
 use Rattle.memory.specs.Memory.{view, held_of, written_of, virtual}
 use Rattle.memory.specs.Api.{Kept, Lacks, Visited, Prepared}
 use Rattle.memory.specs.Indexing.{Low, Started}
 use Rattle.memory.proofs.visit.Accepted.{Asks}
-use Rattle.memory.proofs.Views.{kept_none, kept_then, view_in}
+use Rattle.memory.proofs.Views.{kept_then, view_in}
 
 -- words that were cleared
 module _ (k : ℕ) (m : List ℕ) where
@@ -61,13 +60,12 @@ module _ (b : List ℕ) (s : Sizes) where
   unfolding theory_in
   all_lacking t r k h l = omega (arith, k.left t r l (omega arith), k.left (complement t) r (omega arith) (omega arith), k.invariant.index.sizes r h)
 
-  module _ (r : ℕ) {m n : List ℕ} (e : Legal b s) (k : Started (theory_in b s) r m n) (h : r < s.rules) where
+  module _ (r : ℕ) {m n : List ℕ} (k : Started (theory_in b s) r m n) (h : r < s.rules) where
     pub first_asks : Asks b s n r 0
-    first_asks = (e, k.invariant, h, omega arith, all_lacking 0 r k h (omega arith))
+    first_asks = (k.invariant, h, omega arith, all_lacking 0 r k h (omega arith))
 
     pub second_asks : {o : List ℕ} → Visited (theory_in b s) 0 r n o → Asks b s o r 2
     second_asks v = (
-      e,
       v.invariant,
       h,
       omega arith,
@@ -98,15 +96,6 @@ module _ (b : List ℕ) (s : Sizes) where
           marks = λ t i h. w.marks t i h ∙ v.marks t i h ∙ k.marks t i h;
           kept = kept_then k.kept (kept_then v.kept w.kept);
         }
-
-  pub started_all : {m n : List ℕ} (i k : ℕ) → i ≤ k → k ≤ i → Started (theory_in b s) i m n → Started (theory_in b s) k m n
-  started_all {m} {n} i k h l g = subst (λ z. Started (theory_in b s) z m n) (le_antisymm h l) g
-
-  pub started_on : {m n o : List ℕ} (i k : ℕ) → Started (theory_in b s) i m n → Started (theory_in b s) k n o → Started (theory_in b s) k m o
-  started_on i k g h = record { invariant = h.invariant; done = h.done; left = h.left; marks = h.marks; kept = kept_then g.kept h.kept }
-
-  pub started_again : {m n : List ℕ} (i : ℕ) → Started (theory_in b s) i m n → Started (theory_in b s) i n n
-  started_again {m} {n} i k = record { invariant = k.invariant; done = k.done; left = k.left; marks = k.marks; kept = kept_none n }
 
 -- nothing is processed
 pick_none : (l : List ℕ) (p : ℕ → Bool) → ((x : ℕ) → p x ≡ false) → length (pick l p) ≡ 0

@@ -1,5 +1,5 @@
 -- The tests of the words (specs/Deciding.antt) are the inference rules over what is processed. Assumes nothing.
-use Prim.Native.Nat.{ℕ, suc, ◌+◌, ◌*◌, ◌≤◌, ◌<◌}
+use Prim.Native.Nat.{ℕ, suc, ◌+◌, ◌*◌, ◌/◌, ◌≤◌, ◌<◌}
 use native.Mathlib.Nat.{add-zero}
 use native.Mathlib.Omega.{arith}
 use mathlib.Core.Path.{◌≡◌, refl, sym, ◌∙◌, ap, ap₂, subst}
@@ -20,8 +20,8 @@ use Rattle.table.specs.declared.format.Sizes.{Sizes}
 use Rattle.table.specs.Format.{theory_in}
 use Rattle.table.specs.Refusals.{Legal}
 use Rattle.table.proofs.Legal.{limited, ranged, stronger_below}
-use Rattle.memory.specs.Layout.{tag_count, field_size}
-use Rattle.memory.specs.Fields.{has, size_f, rivals_f, beaten_f, lost_f, strict_f, support_f, headed_f, fact_f, proved_f, refuted_f, firing_f, out_f, countered_f, unopposed_f}
+use Rattle.memory.specs.Layout.{tag_count, field_size, memory_size}
+use Rattle.memory.specs.Fields.{has, size_f, rivals_f, beaten_f, lost_f, support_f, headed_f, firing_f, out_f, countered_f, unopposed_f}
 use Rattle.memory.specs.Memory.{view, held_of, fires, is_out, antecedents, virtual, Ready}
 use Rattle.memory.specs.Deciding.{processed, definitely_by, not_definitely_by, defeasibly_by, not_defeasibly_by, standing_with}
 use Rattle.memory.proofs.inference.Counting.{count_every, count_ext, count_some, pick_all, pick_one}
@@ -45,9 +45,6 @@ and_no b e = sym (ap (◌and b) e)
 
 above : (n : ℕ) → (n ≡ 0 → ⊥) → ltb 0 n ≡ true
 above n h = true_of _ (lt→ltb 0 n (omega arith))
-
-last_tag : (t : ℕ) → (t ≡ 0 → ⊥) → (t ≡ 1 → ⊥) → (t ≡ 2 → ⊥) → t < tag_count → t ≡ 3
-last_tag t n0 n1 n2 h = omega arith
 
 -- a fact, by its word
 fact_above : (b : Bool) → ltb 0 (weigh b 1) ≡ b
@@ -218,13 +215,6 @@ module _ (d : Theory) (m : List ℕ) (ready : Ready d m) where
 
 -- the tests as they are read
 module _ (w : ℕ → ℕ → ℕ) (q : ℕ) where
-  pub read_definitely : {f p : ℕ} {r : Bool} → f ≡ w fact_f q → p ≡ w proved_f q → r ≡ (ltb 0 f or ltb 0 p) → r ≡ definitely_by w q
-  read_definitely e1 e2 e = e ∙ ap₂ (λ f p. ltb 0 f or ltb 0 p) e1 e2
-
-  pub read_not_definitely : {u s f : ℕ} {r : Bool} → u ≡ w refuted_f q → s ≡ w strict_f q → f ≡ w fact_f q → r ≡ (eqb f 0 and eqb u s)
-      → r ≡ not_definitely_by w q
-  read_not_definitely e1 e2 e3 e = e ∙ ap₂ ◌and◌ (ap (λ f. eqb f 0) e3) (ap₂ eqb e1 e2)
-
   -- +∂, part by part
   module _ {p : Bool} (ep : p ≡ processed w q 0) where
     pub defeasibly_definite : p ≡ true → true ≡ defeasibly_by w q
@@ -269,7 +259,19 @@ pub small_literal : (b : List ℕ) (s : Sizes) (q : ℕ) → Legal b s → q < 2
 small_literal b s q e h = let l : s.atoms ≤ 512 = (limited s e.limits).atoms in omega arith
 
 -- each test as what follows, for an accepted table
-module _ (b : List ℕ) (s : Sizes) (m : List ℕ) (q : ℕ) (accepted : Legal b s) (ready : Ready (theory_in b s) m) (small : q < 2 * s.atoms) where
+module _ (b : List ℕ) (s : Sizes) (m : List ℕ) (x : ℕ) (accepted : Legal b s) (asked : Ready (theory_in b s) m × (x < tag_count * (2 * s.atoms))) where
+  ready : Ready (theory_in b s) m
+  ready = asked.0
+
+  abbrev q : ℕ
+  q = x / tag_count
+
+  small : q < 2 * s.atoms
+  small = omega (arith, asked.1)
+
+  pub test_asks : (q < field_size) × (memory_size ≤ length m)
+  test_asks = (small_literal b s q accepted small, ready.invariant.room)
+
   abbrev Follows : Bool → ℕ → Type 0
   Follows r t = r ≡ inference.follows (theory_in b s) (tagged_by tag_count (held_of m)) q t
 
@@ -285,8 +287,7 @@ module _ (b : List ℕ) (s : Sizes) (m : List ℕ) (q : ℕ) (accepted : Legal b
   unfolding theory_in inference.follows
   follows_2 {r} e f = subst (Follows r) (sym e) (f ∙ defeasibly_by_lem (theory_in b s) m ready q small (stronger_below b s (ranged b s accepted.ranges)))
 
-  pub follows_3 : {r : Bool} {t : ℕ} → (t ≡ 0 → ⊥) → (t ≡ 1 → ⊥) → (t ≡ 2 → ⊥) → t < tag_count → r ≡ not_defeasibly_by (view m) q → Follows r t
+  pub follows_3 : {r : Bool} {t : ℕ} → t ≡ 3 → r ≡ not_defeasibly_by (view m) q → Follows r t
   unfolding theory_in inference.follows
-  follows_3 {r} {t} n0 n1 n2 h f =
-      let e : t ≡ 3 = last_tag t n0 n1 n2 h in
+  follows_3 {r} e f =
       subst (Follows r) (sym e) (f ∙ not_defeasibly_by_lem (theory_in b s) m ready q small (stronger_below b s (ranged b s accepted.ranges)))

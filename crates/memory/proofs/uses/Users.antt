@@ -7,7 +7,7 @@ use lib.Dec.{eqb, eqb→eq}
 use lib.ListN.{length, get_or, length-map}
 use Rattle.logic.specs.Tests.{total, upto}
 use Rattle.logic.specs.Theory.{Theory}
-use Rattle.logic.proofs.Tests.{cond_false, cond_true, eq→eqb}
+use Rattle.logic.proofs.Tests.{cond_false}
 use Rattle.logic.proofs.Lists.{get_d_map_upto, length_upto, member_get_d, member_pick, member_upto}
 use Rattle.memory.specs.Layout.{uses_size}
 use Rattle.memory.specs.Fields.{uses_f}
@@ -61,10 +61,3 @@ uses_few {d} {m} r {q} h a =
 pub user_below : (d : Theory) (p i : ℕ) → i < length (users d p) → get_or (users d p) i 0 < d.rules
 unfolding users
 user_below d p i h = member_upto d.rules _ (member_pick (upto d.rules) _ _ (member_get_d (users d p) i h)).0
-
--- where the uses of a literal begin, as it is read
-pub first_none : (w : ℕ → ℕ → ℕ) (p : ℕ) → p ≡ 0 → 0 ≡ uses_from w p
-first_none w p e = sym (cond_true (eqb p 0) 0 (w uses_f (p - 1)) (eq→eqb p 0 e))
-
-pub first_some : (w : ℕ → ℕ → ℕ) (p : ℕ) {r : ℕ} → (p ≡ 0 → ⊥) → r ≡ w uses_f (p - 1) → r ≡ uses_from w p
-first_some w p n e = e ∙ sym (cond_false (eqb p 0) 0 (w uses_f (p - 1)) (λ t. n (eqb→eq p 0 t)))

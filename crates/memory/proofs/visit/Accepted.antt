@@ -4,25 +4,29 @@ use native.Mathlib.Omega.{arith}
 use mathlib.Core.Path.{◌≡◌, sym, ◌∙◌, subst}
 use mathlib.Core.Bool.{false}
 use mathlib.Core.List.{List}
-use lib.Dec.{T, eqb, eqb→eq}
+use lib.Dec.{T, eqb}
+use denote.Enum.Bare.{sameb}
 use lib.ListN.{length, set, length-map}
 use Rattle.logic.specs.Tests.{upto, pick}
 use Rattle.logic.specs.Theory.{body_of}
-use Rattle.logic.proofs.Tests.{eq→eqb, false_of}
 use Rattle.logic.proofs.Lists.{length_upto, pick_le}
 use Rattle.table.specs.declared.format.Sizes.{Sizes}
 use Rattle.table.specs.Format.{entry_at, body_in, theory_in}
 use Rattle.table.specs.Refusals.{Legal}
 use Rattle.table.proofs.Legal.{limited, ranged, head_below}
 use Rattle.table.proofs.Pairs.{pairs_in_order}
+use Rattle.standing.specs.declared.answer.Standing.{Standing}
+use Rattle.standing.specs.declared.answer.Standing.TheVariants.{Firing}
+use Rattle.standing.specs.contracts.answer.Standing.{the_type}
+use Rattle.standing.specs.Answers.{meant}
 use Rattle.memory.specs.Layout.{tag_count, field_count, field_size, memory_size}
-use Rattle.memory.specs.Fields.{has, size_f}
+use Rattle.memory.specs.Fields.{has}
 use Rattle.memory.specs.Memory.{view, Invariant}
 use Rattle.memory.specs.Api.{Lacks, Visited}
-use Rattle.memory.specs.Deciding.{decided_by}
+use Rattle.memory.specs.Deciding.{standing_with, decided_by}
 use Rattle.memory.specs.Visits.{WellFormed, Raised, just_reached, Unchanged, Decided}
 use Rattle.memory.proofs.visit.Steps.{raised_set, undecided, visited_of}
-use Rattle.memory.proofs.deciding.Deciding.{just_decided, just_two}
+use Rattle.memory.proofs.deciding.Deciding.{is_firing, just_decided, just_two}
 
 module _ (b : List ℕ) (s : Sizes) where
   pub well_formed : Legal b s → WellFormed (theory_in b s)
@@ -48,7 +52,7 @@ module _ (b : List ℕ) (s : Sizes) where
 
   -- what a visit asks
   abbrev pub Asks : List ℕ → ℕ → ℕ → Type 0
-  Asks m r t = Legal b s × Invariant (theory_in b s) m × (r < s.rules) × (t < tag_count) × Lacks (view m) t r
+  Asks m r t = Invariant (theory_in b s) m × (r < s.rules) × (t < tag_count) × Lacks (view m) t r
 
   -- by words, and by the same numbers as indices
   module _ (m : List ℕ) {r t r' t' : ℕ} (e : r' ≡ r) (f : t' ≡ t) where
@@ -58,62 +62,56 @@ module _ (b : List ℕ) (s : Sizes) where
     pub visit_wide : (n : List ℕ) → Visited (theory_in b s) t' r' m n → Visited (theory_in b s) t r m n
     visit_wide n v = subst (λ y. Visited (theory_in b s) t y m n) e (subst (λ x. Visited (theory_in b s) x r' m n) f v)
 
-  module _ (m : List ℕ) (r t : ℕ) (p : Asks m r t) where
+  module _ (legal : Legal b s) (m : List ℕ) (r t : ℕ) (p : Asks m r t) where
     small : r < field_size
-    small = omega (arith, p.2, (limited s p.0.limits).rules)
+    small = omega (arith, p.1, (limited s legal.limits).rules)
 
     inside : r < (theory_in b s).rules
     unfolding theory_in
-    inside = p.2
+    inside = p.1
 
     pub definite_asks : t < 2
         → (WellFormed (theory_in b s) × Invariant (theory_in b s) m × (r < s.rules) × (t < 2) × Lacks (view m) t r) × ((r < field_size) × (memory_size ≤ length m))
-    definite_asks h = ((well_formed p.0, p.1, p.2, h, p.4), (small, p.1.room))
+    definite_asks h = ((well_formed legal, p.0, p.1, h, p.3), (small, p.0.room))
 
     pub decides_asks : 2 ≤ t → (r < field_size) × (memory_size ≤ length m) × (2 ≤ t) × (t < tag_count)
-    decides_asks l = (small, p.1.room, l, p.3)
+    decides_asks l = (small, p.0.room, l, p.2)
 
     pub bump_asks : (has t < field_count) × (r < field_size) × (memory_size ≤ length m) × (view m (has t) r < 65535)
     bump_asks = (
-      omega (arith, p.3),
+      omega (arith, p.2),
       small,
-      p.1.room,
-      omega (arith, p.4, p.1.index.sizes r inside, body_short r, (limited s p.0.limits).entries),
+      p.0.room,
+      omega (arith, p.3, p.0.index.sizes r inside, body_short r, (limited s legal.limits).entries),
     )
 
     -- the antecedent has its tag
     module _ (n : List ℕ) (g : n ≡ set m (field_size * has t + r) (view m (has t) r + 1)) where
       raised : Raised (has t) r 1 m n
-      raised = raised_set m (has t) r n (omega (arith, p.3)) small p.1.room g
+      raised = raised_set m (has t) r n (omega (arith, p.2)) small p.0.room g
 
       pub standing_asks : (r < field_size) × (memory_size ≤ length n) × (0 ≤ 1) × (0 ≤ 1)
-      standing_asks = (small, omega (arith, p.1.room, raised.kept.size), omega arith, omega arith)
+      standing_asks = (small, omega (arith, p.0.room, raised.kept.size), omega arith, omega arith)
 
       just : 2 ≤ t → just_reached (view n) t r ≡ decided_by (view m) t r
-      just l = just_decided (view m) (view n) t r l p.3 p.4 raised.words
+      just l = just_decided (view m) (view n) t r l p.2 p.3 raised.words
 
       -- and the rule is decided by it or not
       pub visit_undecided : 2 ≤ t → decided_by (view m) t r ≡ false → Visited (theory_in b s) t r m n
-      visit_undecided l e = undecided (theory_in b s) m n t r p.3 inside p.1 p.4 raised (sym (just l)) e
+      visit_undecided l e = undecided (theory_in b s) m n t r p.2 inside p.0 p.3 raised (sym (just l)) e
 
       pub propagate_asks : (u : ℕ) → t ≡ u → 2 ≤ t → T (decided_by (view m) t r)
           → (WellFormed (theory_in b s) × Decided (theory_in b s) u r n × (r < s.rules) × (2 ≤ u) × (u < tag_count)) × ((r < field_size) × (memory_size ≤ length n))
       propagate_asks u e l y = (
         subst (λ z. WellFormed (theory_in b s) × Decided (theory_in b s) z r n × (r < s.rules) × (2 ≤ z) × (z < tag_count)) e
-            (well_formed p.0, record { before = m; invariant = p.1; lacks = p.4; raised = raised; just = subst T (sym (just l)) y }, p.2, l, p.3),
-        (small, omega (arith, p.1.room, raised.kept.size)),
+            (well_formed legal, record { before = m; invariant = p.0; lacks = p.3; raised = raised; just = subst T (sym (just l)) y }, p.1, l, p.2),
+        (small, omega (arith, p.0.room, raised.kept.size)),
       )
 
       pub visit_decided : (o : List ℕ) → Unchanged n o × Invariant (theory_in b s) o → Visited (theory_in b s) t r m o
-      visit_decided o k = visited_of (theory_in b s) m n o t r p.3 raised k.0 k.1
+      visit_decided o k = visited_of (theory_in b s) m n o t r p.2 raised k.0 k.1
 
   -- the first antecedent with +∂, by how the rule stands after it
-  module _ (m : List ℕ) (r : ℕ) (p : Asks m r 2) (n : List ℕ) (g : n ≡ set m (field_size * has 2 + r) (view m (has 2) r + 1)) where
-    after : eqb (view n (has 2) r) (view n size_f r) ≡ decided_by (view m) 2 r
-    after = sym (just_two (view n) r) ∙ just m r 2 p n g (omega arith)
-
-    pub start_decided : view n (has 2) r ≡ view n size_f r → T (decided_by (view m) 2 r)
-    start_decided e = subst T after (eq→eqb _ _ e)
-
-    pub start_undecided : (view n (has 2) r ≡ view n size_f r → ⊥) → decided_by (view m) 2 r ≡ false
-    start_undecided f = sym after ∙ false_of _ (λ u. f (eqb→eq _ _ u))
+  module _ (legal : Legal b s) (m : List ℕ) (r : ℕ) (p : Asks m r 2) (n : List ℕ) (g : n ≡ set m (field_size * has 2 + r) (view m (has 2) r + 1)) where
+    pub start_decides : (x : Standing) → meant x ≡ standing_with (view n) 0 0 r → sameb the_type x Firing ≡ decided_by (view m) 2 r
+    start_decides x e = is_firing (view n) r x e ∙ sym (just_two (view n) r) ∙ just legal m r 2 p n g (omega arith)

@@ -27,6 +27,7 @@ use Rattle.memory.specs.Memory.{view, use_at, held_of, written_of, users, antece
 use Rattle.memory.specs.Api.{adds, UsesAt, Kept, Lacks, Visited, Added}
 use Rattle.memory.specs.Visits.{Spread}
 use Rattle.memory.proofs.Views.{kept_then, rest_set, use_set, view_set, view_set_field, view_set_index}
+use Rattle.memory.proofs.visit.Accepted.{Asks}
 use Rattle.memory.proofs.visit.Steps.{invariant_marks}
 use Rattle.memory.proofs.uses.Users.{use_is, use_small, user_below}
 
@@ -252,53 +253,52 @@ module _ (d : Theory) (bodies : (r : ℕ) → T (distinct (body_of d r))) (few :
       }
 
 -- the walk over the uses, of the values that the code has at hand
-module _ (b : List ℕ) (s : Sizes) (m₀ : List ℕ) (p t : ℕ)
-    (a : Legal b s × Ready (theory_in b s) m₀ × (p < 2 * s.atoms) × (t < tag_count) × (held_of m₀ (tag_count * p + t) ≡ false) × Coherent (adds (held_of m₀) (tag_count * p + t)))
+module _ (b : List ℕ) (s : Sizes) (m₀ : List ℕ) (p t : ℕ) (legal : Legal b s)
+    (a : Ready (theory_in b s) m₀ × (p < 2 * s.atoms) × (t < tag_count) × (held_of m₀ (tag_count * p + t) ≡ false) × Coherent (adds (held_of m₀) (tag_count * p + t)))
     {first end : ℕ} (at : UsesAt (theory_in b s) p first end) where
   in_theory : p < 2 * (theory_in b s).atoms
   unfolding theory_in
-  in_theory = a.2
+  in_theory = a.1
 
   pub uses_start_of : Spreading (theory_in b s) p t first m₀ m₀ first
-  uses_start_of = spread_start (theory_in b s) (bodies_apart b s a.0) p t in_theory a.3 m₀ a.1 at
+  uses_start_of = spread_start (theory_in b s) (bodies_apart b s legal) p t in_theory a.2 m₀ a.0 at
 
   module _ (m : List ℕ) (k : ℕ) (w : Spreading (theory_in b s) p t first m₀ m k) where
     pub uses_end_of : end ≤ k → Spread (theory_in b s) p t m₀ m
-    uses_end_of = spread_end (theory_in b s) (bodies_apart b s a.0) p t in_theory a.3 m₀ a.1 at m k w
+    uses_end_of = spread_end (theory_in b s) (bodies_apart b s legal) p t in_theory a.2 m₀ a.0 at m k w
 
     module _ (h : k < end) where
       pub use_asks_small : (k < uses_size) × (memory_size ≤ length m)
-      use_asks_small = (spread_small (theory_in b s) (bodies_apart b s a.0) p t in_theory a.3 m₀ a.1 at m k w h, w.invariant.room)
+      use_asks_small = (spread_small (theory_in b s) (bodies_apart b s legal) p t in_theory a.2 m₀ a.0 at m k w h, w.invariant.room)
 
       pub visit_asks : (r : ℕ) → r ≡ use_at m k
-          → Legal b s × Invariant (theory_in b s) m × (r < s.rules) × (t < tag_count) × Lacks (view m) t r
+          → Asks b s m r t
       unfolding theory_in
       visit_asks r f = (
-        a.0,
         w.invariant,
-        use_below (theory_in b s) (bodies_apart b s a.0) p t in_theory a.3 m₀ a.1 at m k w h r f,
-        a.3,
-        use_asks (theory_in b s) (bodies_apart b s a.0) p t in_theory a.3 m₀ a.1 at m k w h r f a.4 a.5,
+        use_below (theory_in b s) (bodies_apart b s legal) p t in_theory a.2 m₀ a.0 at m k w h r f,
+        a.2,
+        use_asks (theory_in b s) (bodies_apart b s legal) p t in_theory a.2 m₀ a.0 at m k w h r f a.3 a.4,
       )
 
       pub uses_next_of : (r : ℕ) → r ≡ use_at m k → (n : List ℕ) → Visited (theory_in b s) t r m n → Spreading (theory_in b s) p t first m₀ n (k + 1)
-      uses_next_of r f n v = spread_next (theory_in b s) (bodies_apart b s a.0) p t in_theory a.3 m₀ a.1 at m k w h r f n v
+      uses_next_of r f n v = spread_next (theory_in b s) (bodies_apart b s legal) p t in_theory a.2 m₀ a.0 at m k w h r f n v
 
 -- and the whole
-module _ (b : List ℕ) (s : Sizes) (m : List ℕ) (x p t : ℕ) (e : p ≡ x / tag_count) (f : t ≡ x % tag_count)
-    (a : Legal b s × Ready (theory_in b s) m × (x < tag_count * (2 * s.atoms)) × (written_of m x ≡ true) × (held_of m x ≡ false) × Coherent (adds (held_of m) x)) where
+module _ (b : List ℕ) (s : Sizes) (m : List ℕ) (x p t : ℕ) (e : p ≡ x / tag_count) (f : t ≡ x % tag_count) (legal : Legal b s)
+    (a : Ready (theory_in b s) m × (x < tag_count * (2 * s.atoms)) × (written_of m x ≡ true) × (held_of m x ≡ false) × Coherent (adds (held_of m) x)) where
   atoms_few : s.atoms ≤ 512
-  atoms_few = (limited s a.0.limits).atoms
+  atoms_few = (limited s legal.limits).atoms
 
   quarter : x / tag_count < 2 * s.atoms
-  quarter = let h : x < tag_count * (2 * s.atoms) = omega (arith, a.2) in split_below tag_count (2 * s.atoms) x (omega arith) h
+  quarter = let h : x < tag_count * (2 * s.atoms) = omega (arith, a.1) in split_below tag_count (2 * s.atoms) x (omega arith) h
 
-  pub uses_asks : (Legal b s × Ready (theory_in b s) m × (p < 2 * s.atoms) × (t < tag_count) × (held_of m (tag_count * p + t) ≡ false) × Coherent (adds (held_of m) (tag_count * p + t))) × ((p < field_size) × (memory_size ≤ length m))
+  pub uses_asks : (Ready (theory_in b s) m × (p < 2 * s.atoms) × (t < tag_count) × (held_of m (tag_count * p + t) ≡ false) × Coherent (adds (held_of m) (tag_count * p + t))) × ((p < field_size) × (memory_size ≤ length m))
   uses_asks =
       let r : x % tag_count < tag_count = mod-lt x (omega arith) in
       let i : tag_count * p + t ≡ x = ap₂ (λ y z. tag_count * y + z) e f ∙ join_split tag_count x in (
-        (a.0, a.1, omega (arith, quarter), omega arith, ap (held_of m) i ∙ a.4, subst (λ z. Coherent (adds (held_of m) z)) (sym i) a.5),
-        (omega (arith, quarter, atoms_few), a.1.invariant.room),
+        (a.0, omega (arith, quarter), omega arith, ap (held_of m) i ∙ a.3, subst (λ z. Coherent (adds (held_of m) z)) (sym i) a.4),
+        (omega (arith, quarter, atoms_few), a.0.invariant.room),
       )
 
   pub mark_asks : (n : List ℕ) (i j : ℕ) → i ≡ t → j ≡ p → Spread (theory_in b s) p t m n → (i < field_count) × (j < field_size) × (memory_size ≤ length n)
@@ -307,5 +307,5 @@ module _ (b : List ℕ) (s : Sizes) (m : List ℕ) (x p t : ℕ) (e : p ≡ x / 
   pub added_of : (n n' : List ℕ) (i j : ℕ) → i ≡ t → j ≡ p → Spread (theory_in b s) p t m n → n' ≡ set n (field_size * i + j) 2 → Added (theory_in b s) x m n'
   unfolding theory_in
   added_of n n' i j g h w c =
-      add-end (theory_in b s) (bodies_apart b s a.0) atoms_few x quarter m a.1 a.3 a.4 n
+      add-end (theory_in b s) (bodies_apart b s legal) atoms_few x quarter m a.0 a.2 a.3 n
       (subst (λ z. Spread (theory_in b s) (x / tag_count) z m n) f (subst (λ z. Spread (theory_in b s) z t m n) e w)) n' (c ∙ ap₂ (λ y z. set n (field_size * y + z) 2) (g ∙ f) (h ∙ e))

@@ -1,5 +1,5 @@
 -- A visit's memory after each of its steps. Assumes nothing.
-use Prim.Native.Nat.{ℕ, ◌+◌, ◌-◌, ◌*◌, ◌%◌, ◌≤◌, ◌<◌}
+use Prim.Native.Nat.{ℕ, ◌+◌, ◌-◌, ◌*◌, ◌≤◌, ◌<◌}
 use native.Mathlib.Omega.{arith}
 use mathlib.Core.Path.{◌≡◌, refl, sym, ◌∙◌, ap, ap₂, subst, fun_ext}
 use mathlib.Core.Logic.{inr, ⊎_elim}
@@ -321,49 +321,24 @@ module _ (m : List ℕ) (f i : ℕ) where
   pub raised_no : (a : Bool) → a ≡ false → Raised f i (weigh a 1) m m
   raised_no a y = subst (λ z. Raised f i z m m) (sym (weigh_false a 1 (of_false a y))) raised_none
 
--- the tests, as they are computed
-module _ (w : ℕ → ℕ → ℕ) (t r : ℕ) where
-  pub free_two : {a b : ℕ} → t ≡ 2 → a ≡ w lost_f r → b ≡ w rivals_f r → eqb a b ≡ is_free w t r
-  unfolding is_free
-  free_two e f g = ap₂ eqb f g ∙ sym (cond_true (eqb t 2) _ _ (eq→eqb t 2 e))
-
-  pub free_three : {a : ℕ} → (t ≡ 2 → ⊥) → a ≡ w beaten_f r → eqb a 0 ≡ is_free w t r
-  unfolding is_free
-  free_three e f = ap (λ z. eqb z 0) f ∙ sym (cond_false (eqb t 2) _ _ (λ u. e (eqb→eq t 2 u)))
-
 -- whether a rule is just countered by a rival that fires
 module _ (w : ℕ → ℕ → ℕ) (r : ℕ) where
-  pub countered_now : w beaten_f r ≡ 1 → w (has 3) r ≡ 0 → true ≡ just_reached_by_rival w 2 r
-  unfolding just_reached_by_rival
-  countered_now e f = sym (true_of _ (and_intro _ _ (eq→eqb (w beaten_f r) 1 e) (eq→eqb (w (has 3) r) 0 f)))
+  pub countered_now : w beaten_f r ≡ 1 → eqb (w (has 3) r) 0 ≡ just_reached_by_rival w 2 r
+  unfolding just_reached_by_rival ◌and◌
+  countered_now e = ap (λ b. b and eqb (w (has 3) r) 0) (sym (true_of _ (eq→eqb (w beaten_f r) 1 e)))
 
-  pub countered_not : (w beaten_f r ≡ 1 → w (has 3) r ≡ 0 → ⊥) → false ≡ just_reached_by_rival w 2 r
+  pub countered_not : (w beaten_f r ≡ 1 → ⊥) → false ≡ just_reached_by_rival w 2 r
   unfolding just_reached_by_rival
-  countered_not n = sym (false_of _ (λ u. n (eqb→eq (w beaten_f r) 1 (and_left _ _ u)) (eqb→eq (w (has 3) r) 0 (and_right _ _ u))))
+  countered_not n = sym (false_of _ (λ u. n (eqb→eq (w beaten_f r) 1 (and_left _ _ u))))
 
   -- and unopposed by one that is out
-  pub unopposed_now : w lost_f r ≡ w rivals_f r → w (has 2) r ≡ w size_f r → true ≡ just_reached_by_rival w 3 r
+  pub unopposed_now : w lost_f r ≡ w rivals_f r → eqb (w (has 2) r) (w size_f r) ≡ just_reached_by_rival w 3 r
+  unfolding just_reached_by_rival ◌and◌
+  unopposed_now e = ap (λ b. b and eqb (w (has 2) r) (w size_f r)) (sym (true_of _ (eq→eqb (w lost_f r) (w rivals_f r) e)))
+
+  pub unopposed_not : (w lost_f r ≡ w rivals_f r → ⊥) → false ≡ just_reached_by_rival w 3 r
   unfolding just_reached_by_rival
-  unopposed_now e f = sym (true_of _ (and_intro _ _ (eq→eqb (w lost_f r) (w rivals_f r) e) (eq→eqb (w (has 2) r) (w size_f r) f)))
-
-  pub unopposed_not : (w lost_f r ≡ w rivals_f r → w (has 2) r ≡ w size_f r → ⊥) → false ≡ just_reached_by_rival w 3 r
-  unfolding just_reached_by_rival
-  unopposed_not n = sym (false_of _ (λ u. n (eqb→eq (w lost_f r) (w rivals_f r) (and_left _ _ u)) (eqb→eq (w (has 2) r) (w size_f r) (and_right _ _ u))))
-
-module _ (w : ℕ → ℕ → ℕ) (t r : ℕ) {x : Bool} where
-  pub by_rival_two : t ≡ 2 → x ≡ just_reached_by_rival w 2 r → x ≡ just_reached_by_rival w t r
-  by_rival_two e f = f ∙ ap (λ u. just_reached_by_rival w u r) (sym e)
-
-  pub by_rival_three : t ≡ 3 → x ≡ just_reached_by_rival w 3 r → x ≡ just_reached_by_rival w t r
-  by_rival_three e f = f ∙ ap (λ u. just_reached_by_rival w u r) (sym e)
-
-pub threshold_even : (t n : ℕ) → t % 2 ≡ 0 → n ≡ threshold t n
-unfolding threshold
-threshold_even t n e = sym (cond_true (eqb (t % 2) 0) _ _ (eq→eqb _ _ e))
-
-pub threshold_odd : (t n : ℕ) → (t % 2 ≡ 0 → ⊥) → 1 ≡ threshold t n
-unfolding threshold
-threshold_odd t n e = sym (cond_false (eqb (t % 2) 0) _ _ (λ u. e (eqb→eq _ _ u)))
+  unopposed_not n = sym (false_of _ (λ u. n (eqb→eq (w lost_f r) (w rivals_f r) (and_left _ _ u))))
 
 -- Rule x is notified, whose head is h.
 module _ (q x t h : ℕ) (m : List ℕ) (e : h ≡ view m head_f x) where
@@ -458,40 +433,19 @@ module _ (d : Theory) (m m1 : List ℕ) (t r : ℕ) (h : t < tag_count) (k : r <
         (λ l. visit_definite d m m1 m1 t r l k s g i (raised_no m1 (rules_by t) (head_of d r) _ (never _))) (at_most 2 t)
 
   -- it decides the rule, for a definite tag
-  module _ {x : Bool} {head kind : ℕ} (a : x ≡ just_reached (view m1) t r) (y : x ≡ true) (e : head ≡ view m1 head_f r) (e' : kind ≡ view m1 kind_f r) where
+  module _ {x strict : Bool} {head : ℕ} (a : x ≡ just_reached (view m1) t r) (y : x ≡ true) (e : head ≡ view m1 head_f r) (e' : strict ≡ eqb (view m1 kind_f r) 0) where
     pub definite_small : WellFormed d → t < 2 → (rules_by t < field_count) × (head < field_size) × (memory_size ≤ length m1) × (view m1 (rules_by t) head < 65535)
     definite_small o l =
         count_small d o m m1 (rules_by t) r head s k (e ∙ i.words.field head_f r (λ f. omega arith)) (omega arith) (omega arith) i.kept.size (i.words.field (rules_by t) head (λ f. omega arith))
 
-    pub definite_end : (n : List ℕ) → t < 2 → Raised (rules_by t) head (weigh (eqb kind 0) 1) m1 n → Visited d t r m n
+    pub definite_end : (n : List ℕ) → t < 2 → Raised (rules_by t) head (weigh strict 1) m1 n → Visited d t r m n
     unfolding ◌and◌
     definite_end n l u =
         visit_definite d m m1 n t r l k s g i
         (subst (λ z. Raised (rules_by t) z (weigh (eqb (view m1 (has t) r) (threshold t (view m size_f r)) and is_strict (kind_of d r)) 1) m1 n) (e ∙ i.words.field head_f r (λ f. omega arith) ∙ s.index.heads r k)
         (subst (λ z. Raised (rules_by t) head (weigh z 1) m1 n)
-        (ap (λ z. eqb z 0) (e' ∙ i.words.field kind_f r (λ f. omega arith) ∙ s.index.kinds r k) ∙ strict_number (kind_of d r)
+        (e' ∙ ap (λ z. eqb z 0) (i.words.field kind_f r (λ f. omega arith) ∙ s.index.kinds r k) ∙ strict_number (kind_of d r)
         ∙ ap (◌and is_strict (kind_of d r)) (sym y ∙ a ∙ just_reached_is)) u))
-
--- a rule is counted at its head, of the values that the code has at hand
-pub head_small : (r f : ℕ) (m : List ℕ) {head : ℕ} → head ≡ view m head_f r → f < field_count → memory_size ≤ length m → view m head_f r < field_size
-    → view m f (view m head_f r) < 65535 → (f < field_count) × (head < field_size) × (memory_size ≤ length m) × (view m f head < 65535)
-head_small r f m e h l k w = (h, omega arith, l, subst (λ z. view m f z < 65535) (sym e) w)
-
-module _ (t r : ℕ) (m : List ℕ) {head : ℕ} (e : head ≡ view m head_f r) where
-  pub own_small : (m2 : List ℕ) {n : ℕ} → 2 ≤ t → t < tag_count → memory_size ≤ length m → view m head_f r < field_size → view m (rules_by t) (view m head_f r) < 65535
-      → Raised (by_itself t) head n m m2 → (rules_by t < field_count) × (head < field_size) × (memory_size ≤ length m2) × (view m2 (rules_by t) head < 65535)
-  own_small m2 lo hi l k w u =
-      let x = head_small r (rules_by t) m e (omega arith) l k w in
-      (x.0, x.1, omega (arith, u.kept.size), omega (arith, x.3, u.words.field (rules_by t) head (λ f. omega arith)))
-
-  pub counted_at_head : (m2 m3 : List ℕ) {kind : ℕ} {x : Bool} → kind ≡ view m kind_f r → x ≡ is_free (view m) t r → Raised (by_itself t) head (weigh x 1) m m2
-      → Raised (rules_by t) head (weigh (ltb kind 2) 1) m2 m3 → CountedAtHead t r m m3
-  counted_at_head m2 m3 f a u v =
-      record {
-        middle = m2;
-        free = subst (λ z. Raised (by_itself t) z (weigh (is_free (view m) t r) 1) m m2) e (subst (λ z. Raised (by_itself t) head (weigh z 1) m m2) a u);
-        own = subst (λ z. Raised (rules_by t) z (weigh (ltb (view m kind_f r) 2) 1) m2 m3) e (subst (λ z. Raised (rules_by t) head (weigh (ltb z 2) 1) m2 m3) f v);
-      }
 
 -- a rule that is decided for a defeasible tag
 module _ (d : Theory) (m1 : List ℕ) (t r : ℕ)

@@ -1,7 +1,10 @@
 -- `convert::convert::to_old` meets its contract. Assumes nothing.
 use native.Mathlib.Omega.{arith}
-use mathlib.Core.Path.{refl, sym, ◌∙◌}
-use Rattle.convert.proofs.Writing.{file_length, pasted_file, wrote_short, wrote_lost, wrote_file}
+use mathlib.Core.Path.{refl, sym, ◌∙◌, ap}
+use mathlib.Core.List.{List, ◌++◌}
+use lib.ListN.{length, drop}
+use Prim.Native.Nat.{ℕ}
+use Rattle.convert.proofs.Writing.{file_length, wrote_short, wrote_lost, wrote_file}
 use Rattle.convert.proofs.convert.to_old.Goals as goal
 
 pub returns-then-out-n : goal.returns-then-out-n
@@ -12,11 +15,9 @@ returns-then-has_origin c =
     wrote_lost _ _ _ c.if-out-n.false (sym c.has_origin.ensures ∙ c.if-has_origin.true) c.refuse-then-has_origin.ensures
 
 pub overflow_cast-result : goal.overflow_cast-result
-overflow_cast-result c =
-    record { fits = omega (arith, file_length _ _ c.requires) }
+overflow_cast-result c = record { fits = omega (arith, file_length _ _ c.args.table.legal) }
 
 pub returns : goal.returns
 returns c =
-    let args = c.args in
     wrote_file _ _ _ c.if-out-n.false (sym c.has_origin.ensures ∙ c.if-has_origin.false) refl
-    (c.copy_bytes.ensures ∙ pasted_file args.out.now args.layout.now)
+    (ap (λ (z : List ℕ). z ++ drop (length c.args.table.layout.now) c.args.out.now) c.copy_bytes.ensures)

@@ -1,20 +1,20 @@
 -- `engine::run::run_started` meets its contract. Assumes nothing.
-use Rattle.engine.proofs.run.Answering.{worked_all}
-use mathlib.Core.Path.{◌∙◌}
+use native.Mathlib.Omega.{arith}
+use Rattle.std.proofs.Common.{rules}
+use Rattle.table.specs.Tables.{theory_said}
+use Rattle.engine.proofs.run.Answering.{worked_all, worked_in, worked_of}
+use Rattle.engine.proofs.run.Opening.{prepared_lines}
+use Rattle.engine.proofs.run.Trying.{atoms_in}
 use Rattle.engine.proofs.run.run_started.Goals as goal
 
-pub work-requires : goal.work-requires
-work-requires c =
-    let paid = c.requires.0 in record {
-      legal = (
-        paid.accepted,
-        c.write_initial-lines.ensures.logged,
-        c.write_initial-lines.ensures.lines,
-        λ x. c.write_initial-lines.ensures.held x ∙ c.prepare.ensures.none x,
-      );
-      start_value = (paid.size, paid.within);
-    }
+pub invariant_of-lines : goal.invariant_of-lines
+invariant_of-lines c =
+    record { logged = prepared_lines c.prepare.ensures (omega (arith, c.requires.1, atoms_in c.args.run.table)) }
 
+-- the lines stood in the buffers that were lent to the end
 pub returns : goal.returns
 returns c =
-    worked_all _ _ _ c.requires.0.size c.requires.0.within c.prepare.ensures c.write_initial-lines.ensures c.work.ensures
+    worked_in
+    (worked_all {d = theory_said c.args.run.table} _ _ _ c.args.run.paid.size c.args.run.paid.within c.prepare.ensures c.write_initial.ensures.opened
+    (worked_of _ c.write_initial.ensures.lent.table c.work.ensures.worked))
+    (search rules) (search rules)

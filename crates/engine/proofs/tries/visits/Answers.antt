@@ -2,10 +2,10 @@
 use Rattle.logic.specs.Tests.{isnt, ◌or◌}
 use Rattle.engine.proofs.tries.visits.Goals as goal
 
-pub returns-then-definite : goal.returns-then-definite
+pub returns-then-not-definite : goal.returns-then-not-definite
 unfolding isnt ◌or◌
-returns-then-definite c = simp c.if-definite.true
+returns-then-not-definite c = simp c.if-not-definite.true
 
-pub returns-else-definite : goal.returns-else-definite
+pub returns-else-not-definite : goal.returns-else-not-definite
 unfolding isnt ◌or◌
-returns-else-definite c = simp c.if-definite.false
+returns-else-not-definite c = simp c.if-not-definite.false

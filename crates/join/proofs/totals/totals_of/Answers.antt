@@ -1,41 +1,28 @@
 -- `join::totals::totals_of` meets its contract. Assumes nothing.
-use Prim.Native.Nat.{◌*◌}
 use native.Mathlib.Omega.{arith}
-use mathlib.Core.Path.{ap}
+use mathlib.Core.Path.{refl}
 use Rattle.table.proofs.Legal.{limited}
 use Rattle.join.proofs.Counting.{counts_few, added_most, totals_are}
 use Rattle.join.proofs.totals.totals_of.Goals as goal
 
 pub added_pairs-added-requires : goal.added_pairs-added-requires
-added_pairs-added-requires c =
-    let (h, k, _, _) = c.requires in let counted = c.head_counts-counts.ensures in (h, counted.size, counts_few _ _ k counted)
-
-pub count_facts-facts-requires : goal.count_facts-facts-requires
-count_facts-facts-requires c = let (h, _, _, _) = c.requires in omega (arith, c.wide.ensures, (limited _ h.limits).atoms)
-
-pub overflow_add-result-3 : goal.overflow_add-result-3
-overflow_add-result-3 c =
-    let (h, k, _, _) = c.requires in
-    record { fits = omega (arith, c.wide-7.ensures, c.wide-6.ensures, (limited _ h.limits).pairs, (limited _ k.limits).pairs) }
+added_pairs-added-requires c = counts_few _ _ c.args.both.tour.legal c.head_counts-counts.ensures
 
 pub overflow_add-result-4 : goal.overflow_add-result-4
 overflow_add-result-4 c =
-    let (h, k, _, _) = c.requires in let args = c.args in
+    let house = c.args.both.house in let tour = c.args.both.tour in
     record {
       fits =
           omega (
             arith,
-            c.wide-7.ensures,
-            c.wide-6.ensures,
-            (limited _ h.limits).pairs,
-            (limited _ k.limits).pairs,
-            added_most args.house.now args.s args.tour.now args.t h k c.head_counts-counts.ensures c.added_pairs-added.ensures,
+            (limited _ house.legal.limits).pairs,
+            (limited _ tour.legal.limits).pairs,
+            added_most house.layout.now house.sizes tour.layout.now tour.sizes house.legal tour.legal c.head_counts-counts.ensures c.added_pairs-added.ensures,
           );
     }
 
 pub returns : goal.returns
 returns c =
-    let (h, k, f, g) = c.requires in let args = c.args in
-    totals_are args.house.now args.s args.tour.now args.t h k f g c.head_counts-counts.ensures c.added_pairs-added.ensures
-    (ap (2 *◌) c.wide.ensures) c.count_facts-facts.ensures c.wide-2.ensures c.wide-3.ensures c.wide-4.ensures
-    c.wide-5.ensures c.wide-6.ensures c.wide-7.ensures
+    let both = c.args.both in let house = both.house in let tour = both.tour in
+    totals_are house.layout.now house.sizes tour.layout.now tour.sizes house.legal tour.legal both.house_marked both.tour_marked c.head_counts-counts.ensures c.added_pairs-added.ensures
+    refl c.count_facts.ensures c.from.ensures c.from-2.ensures c.from-3.ensures c.from-4.ensures c.from-5.ensures c.from-6.ensures

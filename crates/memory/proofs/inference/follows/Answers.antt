@@ -1,45 +1,33 @@
 -- `memory::inference::follows` meets its contract: each tag's test is its inference rule (proofs/inference/Following.antt). Assumes nothing.
-use Prim.Native.Nat.{ℕ, ◌*◌, ◌/◌, ◌<◌}
-use native.Mathlib.Nat.{mod-lt}
 use native.Mathlib.Omega.{arith}
 use Rattle.logic.specs.Reading.{system_of}
-use Rattle.memory.proofs.inference.Following.{follows_0, follows_1, follows_2, follows_3, small_literal}
-use Rattle.memory.specs.Layout.{tag_count}
+use Rattle.memory.proofs.inference.Following.{follows_0, follows_1, follows_2, follows_3, test_asks}
 use Rattle.memory.proofs.inference.follows.Goals as goal
 
--- a conclusion is about a literal
-eighth : (x a : ℕ) → x < tag_count * (2 * a) → x / tag_count < 2 * a
-eighth x a h = omega arith
-
 pub definitely-requires : goal.definitely-requires
-definitely-requires c = (small_literal _ _ _ c.requires.0 (eighth _ _ c.requires.2), c.requires.1.invariant.room)
+definitely-requires c = test_asks _ _ _ _ c.args.table.legal c.requires
 
 pub not_definitely-requires : goal.not_definitely-requires
-not_definitely-requires c = (small_literal _ _ _ c.requires.0 (eighth _ _ c.requires.2), c.requires.1.invariant.room)
+not_definitely-requires c = test_asks _ _ _ _ c.args.table.legal c.requires
 
 pub defeasibly-requires : goal.defeasibly-requires
-defeasibly-requires c = (small_literal _ _ _ c.requires.0 (eighth _ _ c.requires.2), c.requires.1.invariant.room)
+defeasibly-requires c = test_asks _ _ _ _ c.args.table.legal c.requires
 
 pub not_defeasibly-requires : goal.not_defeasibly-requires
-not_defeasibly-requires c = (small_literal _ _ _ c.requires.0 (eighth _ _ c.requires.2), c.requires.1.invariant.room)
+not_defeasibly-requires c = test_asks _ _ _ _ c.args.table.legal c.requires
 
 pub returns-in-0 : goal.returns-in-0
 unfolding system_of
-returns-in-0 c =
-    follows_0 _ _ _ _ c.requires.0 c.requires.1 (eighth _ _ c.requires.2) c.in-0.is c.definitely.ensures
+returns-in-0 c = follows_0 _ _ _ _ c.args.table.legal c.requires c.in-0.is c.definitely.ensures
 
 pub returns-in-1 : goal.returns-in-1
 unfolding system_of
-returns-in-1 c =
-    follows_1 _ _ _ _ c.requires.0 c.requires.1 (eighth _ _ c.requires.2) c.in-1.is c.not_definitely.ensures
+returns-in-1 c = follows_1 _ _ _ _ c.args.table.legal c.requires c.in-1.is c.not_definitely.ensures
 
 pub returns-in-2 : goal.returns-in-2
 unfolding system_of
-returns-in-2 c =
-    follows_2 _ _ _ _ c.requires.0 c.requires.1 (eighth _ _ c.requires.2) c.in-2.is c.defeasibly.ensures
+returns-in-2 c = follows_2 _ _ _ _ c.args.table.legal c.requires c.in-2.is c.defeasibly.ensures
 
 pub returns-in_default : goal.returns-in_default
 unfolding system_of
-returns-in_default c =
-    follows_3 _ _ _ _ c.requires.0 c.requires.1 (eighth _ _ c.requires.2) c.in_default.in_default-own.rest.0.0.1 c.in_default.in_default-own.rest.0.1 c.in_default.in_default-own.rest.1
-    (mod-lt _ (omega arith)) c.not_defeasibly.ensures
+returns-in_default c = follows_3 _ _ _ _ c.args.table.legal c.requires (omega arith) c.not_defeasibly.ensures

@@ -1,11 +1,14 @@
 -- `memory::marks::write` meets its contract. Assumes nothing.
-use Prim.Native.Nat.{◌/◌, ◌%◌}
 use native.Mathlib.Omega.{arith}
-use mathlib.Core.Path.{ap}
-use Rattle.memory.specs.Layout.{tag_count}
+use Rattle.table.proofs.Legal.{limited}
 use Rattle.memory.proofs.visit.Marks.{wrote_at}
 use Rattle.memory.proofs.marks.write.Goals as goal
 
+pub store-requires : goal.store-requires
+store-requires c =
+    (omega arith, omega (arith, (limited _ c.args.table.legal.limits).atoms, c.requires.1), c.requires.0.invariant.room)
+
 pub returns : goal.returns
 returns c =
-    wrote_at _ _ _ (omega (arith, c.requires.1, c.requires.2)) c.requires.0 c.requires.3 (ap (◌% tag_count) c.wide-i.ensures) (ap (◌/ tag_count) c.wide-i.ensures) c.store.ensures
+    wrote_at _ _ _ (omega (arith, (limited _ c.args.table.legal.limits).atoms, c.requires.1)) c.requires.0 c.requires.2 c.from.ensures c.from-2.ensures
+    c.store.ensures

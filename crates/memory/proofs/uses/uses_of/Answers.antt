@@ -6,11 +6,11 @@ use Rattle.memory.proofs.uses.Users.{uses_read}
 use Rattle.memory.proofs.uses.uses_of.Goals as goal
 
 pub first_use-first-requires : goal.first_use-first-requires
-first_use-first-requires c = (small_literal _ _ _ c.requires.0 c.requires.2, c.requires.1.invariant.room)
+first_use-first-requires c = (small_literal _ _ _ c.args.table.legal c.requires.1, c.requires.0.invariant.room)
 
 pub load-end-requires : goal.load-end-requires
-load-end-requires c = (omega arith, small_literal _ _ _ c.requires.0 c.requires.2, c.requires.1.invariant.room)
+load-end-requires c = (omega arith, small_literal _ _ _ c.args.table.legal c.requires.1, c.requires.0.invariant.room)
 
 pub returns : goal.returns
 unfolding theory_in
-returns c = uses_read _ _ _ c.requires.1.invariant.index c.requires.2 c.first_use-first.ensures c.load-end.ensures
+returns c = uses_read _ _ _ c.requires.0.invariant.index c.requires.1 c.first_use-first.ensures c.load-end.ensures

@@ -4,21 +4,21 @@ use Rattle.memory.proofs.visit.Adding.{use_asks_small, uses_end_of, uses_next_of
 use Rattle.memory.proofs.visit.visit_uses.Goals as goal
 
 pub loop-k-init : goal.loop-k-init
-loop-k-init c = uses_start_of _ _ _ _ _ c.requires.legal c.requires.p_lt_field_size.2
+loop-k-init c = uses_start_of _ _ _ _ _ c.args.table.legal c.requires.ready c.requires.p_lt_field_size.2
 
 pub load_use-r-requires : goal.load_use-r-requires
 load_use-r-requires c =
-    use_asks_small _ _ _ _ _ c.requires.legal c.requires.p_lt_field_size.2 _ _ c.loop-k.invariant c.loop-k-test.true
+    use_asks_small _ _ _ _ _ c.args.table.legal c.requires.ready c.requires.p_lt_field_size.2 _ _ c.loop-k.invariant c.loop-k-test.true
 
 pub visit-requires : goal.visit-requires
 visit-requires c =
-    asks_wide _ _ _ c.wide.ensures c.wide-in-loop-k.ensures
-    (visit_asks _ _ _ _ _ c.requires.legal c.requires.p_lt_field_size.2 _ _ c.loop-k.invariant c.loop-k-test.true _ c.load_use-r.ensures)
+    asks_wide _ _ _ c.from.ensures c.from-in-loop-k.ensures
+    (visit_asks _ _ _ _ _ c.args.table.legal c.requires.ready c.requires.p_lt_field_size.2 _ _ c.loop-k.invariant c.loop-k-test.true _ c.load_use-r.ensures)
 
 pub loop-k-preserved : goal.loop-k-preserved
 loop-k-preserved c =
-    uses_next_of _ _ _ _ _ c.requires.legal c.requires.p_lt_field_size.2 _ _ c.loop-k.invariant c.loop-k-test.true _ c.load_use-r.ensures _
-    (visit_wide _ _ _ c.wide.ensures c.wide-in-loop-k.ensures _ c.visit.ensures)
+    uses_next_of _ _ _ _ _ c.args.table.legal c.requires.ready c.requires.p_lt_field_size.2 _ _ c.loop-k.invariant c.loop-k-test.true _ c.load_use-r.ensures _
+    (visit_wide _ _ _ c.from.ensures c.from-in-loop-k.ensures _ c.visit.ensures)
 
 pub returns : goal.returns
-returns c = uses_end_of _ _ _ _ _ c.requires.legal c.requires.p_lt_field_size.2 _ _ c.loop-k.invariant c.loop-k-test.false
+returns c = uses_end_of _ _ _ _ _ c.args.table.legal c.requires.ready c.requires.p_lt_field_size.2 _ _ c.loop-k.invariant c.loop-k-test.false

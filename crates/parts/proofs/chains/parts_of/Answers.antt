@@ -3,5 +3,4 @@ use Rattle.parts.proofs.Smallest.{words_smallest}
 use Rattle.parts.proofs.chains.parts_of.Goals as goal
 
 pub returns : goal.returns
-returns c =
-    words_smallest _ _ c.requires c.chain_entries.ensures c.flatten.ensures
+returns c = words_smallest _ _ c.args.table.legal c.chain_entries.ensures c.flatten.ensures

@@ -3,4 +3,4 @@ use Rattle.report.proofs.Running.{printed}
 use Rattle.report.proofs.sheet.sheet_of.Goals as goal
 
 pub returns : goal.returns
-returns c = printed c.args.table.now c.put_sheet.new.out c.put_sheet.result c.put_sheet.ensures
+returns c = printed c.args.table.now c.put_sheet.new.self.bytes c.put_sheet.new.self.length c.put_sheet.ensures

@@ -1,5 +1,4 @@
--- `report::support::supported_by` meets its contract. The loop's invariant: what the rules passed say of each literal. Assumes nothing.
-use Prim.Native.Nat.{◌-◌, ◌≤◌}
+-- `report::support::supported_by` meets its contract. The loop's invariant: what the rules passed say of each literal.
 use Rattle.logic.specs.Tests.{some}
 use Rattle.table.specs.Format.{theory_in}
 use Rattle.standing.specs.Marks.{MarkedBy}
@@ -8,8 +7,4 @@ use Rattle.report.proofs.Supporters.{stands}
 use Rattle.report.proofs.support.supported_by.Given as goal
 
 abbrev pub invariant-loop-r : goal.invariant-loop-r
-invariant-loop-r l =
-    (l.r ≤ l.s.rules) × MarkedBy (λ q. some l.r (live_supporter (theory_in l.layout l.s) (stands l.lacking l.refuted) q)) 1024 l.supported
-
-abbrev pub decreases-loop-r : goal.decreases-loop-r
-decreases-loop-r l = l.s.rules - l.r
+invariant-loop-r l = MarkedBy (λ q. some l.r (live_supporter (theory_in l.table.layout.now l.table.sizes) (stands l.lacking l.refuted) q)) 1024 l.supported

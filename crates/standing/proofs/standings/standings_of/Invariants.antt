@@ -1,14 +1,11 @@
 -- `standing::standings::standings_of` meets its contract. The loop's invariant: what the entries passed say of each rule. Assumes nothing.
-use Prim.Native.Nat.{◌-◌, ◌≤◌}
-use mathlib.Core.Path.{◌≡◌}
 use Rattle.logic.specs.Tests.{some}
 use Rattle.standing.specs.Marks.{MarkedBy}
 use Rattle.standing.proofs.Bodies.{lacks, refutes}
 use Rattle.standing.proofs.standings.standings_of.Given as goal
 
 abbrev pub invariant-loop-i : goal.invariant-loop-i
-invariant-loop-i l =
-    (l.end ≡ l.s.entries) × (l.i ≤ l.end) × MarkedBy (λ r. some l.i (lacks l.layout l.s r l.marks)) 1024 l.lacking × MarkedBy (λ r. some l.i (refutes l.layout l.s r l.marks)) 1024 l.refuted
-
-abbrev pub decreases-loop-i : goal.decreases-loop-i
-decreases-loop-i l = l.end - l.i
+invariant-loop-i l = record {
+  plus : MarkedBy (λ r. some l.i (lacks l.layout l.s r l.marks)) 1024 l.lacking;
+  minus : MarkedBy (λ r. some l.i (refutes l.layout l.s r l.marks)) 1024 l.refuted;
+}

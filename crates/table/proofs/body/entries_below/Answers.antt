@@ -10,15 +10,15 @@ use Rattle.table.proofs.body.entries_below.Goals as goal
 
 pub loop-i-init : goal.loop-i-init
 unfolding total
-loop-i-init c = (omega arith, refl)
+loop-i-init c = refl
 
 pub add_if-n-requires : goal.add_if-n-requires
-add_if-n-requires c = omega (arith, counted_le _ _ c.loop-i.invariant.1)
+add_if-n-requires c = omega (arith, counted_le _ _ c.loop-i.invariant)
 
 pub loop-i-preserved : goal.loop-i-preserved
 loop-i-preserved c =
-    (omega arith, counted_next _ _ c.loop-i.invariant.1 c.add_if-n.ensures (ap (λ e. ltb e.rule c.args.r) c.read_entry-e.ensures))
+    counted_next _ _ c.loop-i.invariant c.add_if-n.ensures (ap (λ e. ltb e.rule c.args.r) c.entry-e.ensures)
 
 pub returns : goal.returns
 unfolding entries_below
-returns c = counted_all _ _ _ c.loop-i.invariant.1 c.loop-i.invariant.0 c.loop-i-test.false
+returns c = counted_all _ _ _ c.loop-i.invariant (omega arith) (omega arith)

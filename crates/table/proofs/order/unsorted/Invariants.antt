@@ -9,13 +9,7 @@ use Rattle.table.proofs.Sections.{InOrder}
 use Rattle.table.proofs.order.unsorted.Given as goal
 
 abbrev pub invariant-loop-i : goal.invariant-loop-i
-invariant-loop-i l = (l.found ≡ false) × (1 ≤ l.i) × (0 < l.n → l.i ≤ l.n) × (0 < l.n → Key l.layout l.left l.right (l.i - 1) l.last) × ((j : ℕ) → j + 1 < l.i → T (rises l.layout l.s l.k j))
-
-abbrev pub decreases-loop-i : goal.decreases-loop-i
-decreases-loop-i l = l.n - l.i
+invariant-loop-i l = (l.found ≡ false) × (1 ≤ l.i) × (0 < l.n → l.i ≤ l.n) × (0 < l.n → Key l.layout.bytes.now l.left l.right (l.i - 1) l.last) × ((j : ℕ) → j + 1 < l.i → T (rises l.layout.bytes.now l.layout.sizes l.k j))
 
 abbrev pub invariant-inspection : goal.invariant-inspection
-invariant-inspection l = (l.found ≡ false) × (l.k ≤ 3) × InOrder l.layout l.s l.k
-
-abbrev pub decreases-inspection : goal.decreases-inspection
-decreases-inspection l = 3 - l.k
+invariant-inspection l = (l.found ≡ false) × (l.k ≤ 3) × InOrder l.layout.bytes.now l.layout.sizes l.k

@@ -8,22 +8,20 @@ use Rattle.table.proofs.Reading.{scan_none, scan_next, scan_end}
 use Rattle.table.proofs.range.bad_rule.Goals as goal
 
 pub loop-i-init : goal.loop-i-init
-loop-i-init c = (omega arith, scan_none _)
+loop-i-init c = scan_none _
 
 pub word_within-w-requires : goal.word_within-w-requires
-word_within-w-requires c = omega arith
+word_within-w-requires c = omega (arith, c.args.layout.whole)
 
 pub loop-i-preserved : goal.loop-i-preserved
 loop-i-preserved c =
-    let args = c.args in (
-      omega arith,
-      scan_next c.loop-i.i (λ r. bad_left args.edition (word args.layout.now (5 + (args.s.facts + r)))) c.loop-i.invariant.1
-          (c.bad_left.ensures ∙ ap (bad_left args.edition) c.word_within-w.ensures) c.either-found.ensures,
-    )
+    let args = c.args in
+    scan_next c.loop-i.i (λ r. bad_left args.edition (word args.layout.bytes.now (5 + (args.layout.sizes.facts + r)))) c.loop-i.invariant
+    (c.bad_left.ensures ∙ ap (bad_left args.edition) c.word_within-w.ensures) c.either-found.ensures
 
 pub returns : goal.returns
 unfolding bad_rule
 returns c =
     let args = c.args in
-    scan_end c.loop-i.i args.s.rules (λ r. bad_left args.edition (word args.layout.now (5 + (args.s.facts + r)))) (omega arith) (omega arith)
-    c.loop-i.invariant.1
+    scan_end c.loop-i.i args.layout.sizes.rules (λ r. bad_left args.edition (word args.layout.bytes.now (5 + (args.layout.sizes.facts + r)))) (omega arith) (omega arith)
+    c.loop-i.invariant

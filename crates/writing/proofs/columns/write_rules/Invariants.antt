@@ -1,5 +1,4 @@
 -- `writing::columns::write_rules` meets its contract. The loop's invariant: the column of the rules passed is written. Assumes nothing.
-use Prim.Native.Nat.{◌-◌, ◌≤◌}
 use mathlib.Core.Path.{◌≡◌}
 use Rattle.table.specs.Format.{rule_at}
 use Rattle.files.specs.Contents.{rule_row}
@@ -7,7 +6,4 @@ use Rattle.writing.specs.Columns.{with_words, column}
 use Rattle.writing.proofs.columns.write_rules.Given as goal
 
 abbrev pub invariant-loop-i : goal.invariant-loop-i
-invariant-loop-i l = (l.i ≤ l.end) × (l.out ≡ with_words l.initial.out l.at (column l.side (λ i. rule_row (rule_at l.layout l.s i)) l.i))
-
-abbrev pub decreases-loop-i : goal.decreases-loop-i
-decreases-loop-i l = l.end - l.i
+invariant-loop-i l = l.out ≡ with_words l.initial.out l.at (column l.side (λ i. rule_row (rule_at l.table.layout.now l.table.sizes i)) l.i)

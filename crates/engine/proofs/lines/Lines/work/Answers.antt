@@ -1,0 +1,44 @@
+-- `Lines::work` meets its contract. Assumes nothing.
+use native.Mathlib.Omega.{arith}
+use Rattle.engine.proofs.run.Lending.{lent_none, lent_then}
+use Rattle.engine.proofs.run.Tallies.{next_by, stepped_by}
+use Rattle.engine.proofs.run.Trying.{atoms_in, lines_most, proper_in}
+use Rattle.engine.proofs.run.Worklist.{stands_asks, stands_done, stands_less, stands_next, stands_start, stands_stopped}
+use Rattle.engine.proofs.lines.Lines.work.Goals as goal
+
+pub loop-tally-init : goal.loop-tally-init
+loop-tally-init c = record {
+  stands =
+      stands_start (proper_in c.args.self.now.table) c.args.self.now.logged c.requires.opened.0 c.requires.opened.1 c.requires.paid.0
+      c.requires.paid.1;
+  lent = lent_none;
+}
+
+pub process_next-next-requires : goal.process_next-next-requires
+process_next-next-requires c =
+    next_by c.loop-tally.invariant.lent.table
+    (stands_asks (proper_in c.args.self.now.table) c.loop-tally.invariant.stands c.loop-tally-test.true)
+
+pub returns-then-next-tally-clause-worked : goal.returns-then-next-tally-clause-worked
+returns-then-next-tally-clause-worked c =
+    stands_stopped (proper_in c.args.self.now.table) c.loop-tally.invariant.stands c.loop-tally-test.true
+    (stepped_by c.loop-tally.invariant.lent.table c.process_next-next.ensures.stepped) c.if-next-tally.true _ c.counts_in.ensures
+
+pub loop-tally-smaller : goal.loop-tally-smaller
+loop-tally-smaller c =
+    let table = c.args.self.now.table in
+    let proper = proper_in table in
+    omega
+    (arith, c.loop-tally-test.true, stands_less proper c.loop-tally.invariant.stands c.loop-tally-test.true (stepped_by c.loop-tally.invariant.lent.table c.process_next-next.ensures.stepped) c.if-next-tally.false, lines_most _ proper _ _ _ c.loop-tally.invariant.stands.logged, atoms_in table)
+
+pub loop-tally-preserved : goal.loop-tally-preserved
+loop-tally-preserved c = record {
+  stands =
+      stands_next (proper_in c.args.self.now.table) c.loop-tally.invariant.stands c.loop-tally-test.true
+      (stepped_by c.loop-tally.invariant.lent.table c.process_next-next.ensures.stepped) c.if-next-tally.false;
+  lent = lent_then c.loop-tally.invariant.lent c.process_next-next.ensures.lent;
+}
+
+pub returns-clause-worked : goal.returns-clause-worked
+returns-clause-worked c =
+    stands_done (proper_in c.args.self.now.table) c.loop-tally.invariant.stands c.loop-tally-test.false _ c.counts_in-2.ensures

@@ -1,0 +1,13 @@
+-- `engine::tries::write_line` meets its contract. Assumes nothing.
+use native.Mathlib.Omega.{arith}
+use Rattle.engine.proofs.run.Trying.{room_for, writes_line}
+use Rattle.engine.proofs.tries.write_line.Goals as goal
+
+pub bounds-log-count : goal.bounds-log-count
+bounds-log-count c = (room_for c.args.table _ _ _ _ c.requires.0 c.requires.1 c.requires.2 c.requires.3).0
+
+pub overflow_add-count : goal.overflow_add-count
+overflow_add-count c = record { fits = omega (arith, (room_for c.args.table _ _ _ _ c.requires.0 c.requires.1 c.requires.2 c.requires.3).1) }
+
+pub returns : goal.returns
+returns c = writes_line c.args.table _ _ _ _ c.requires.0 c.requires.1 c.requires.2 c.requires.3 _ c.write.ensures

@@ -1,0 +1,15 @@
+-- `report::sheet::Sheet::put_atom` meets its contract.
+use native.Mathlib.Omega.{arith}
+use mathlib.Core.Path.{ap}
+use Rattle.report.specs.Text.{decimal}
+use Rattle.report.specs.Sheet.{atom_line}
+use Rattle.report.proofs.Puts.{put_put, put_same}
+use Rattle.report.proofs.sheet.Sheet.put_atom.Goals as goal
+
+pub returns : goal.returns
+unfolding atom_line
+returns c =
+    put_put (omega arith)
+    (put_put (omega arith) (put_put (omega arith) (put_same (ap decimal c.from.ensures) c.put_number.ensures) c.put.ensures)
+    (put_same c.word.ensures c.put-2.ensures))
+    c.put-3.ensures

@@ -1,5 +1,0 @@
--- `report::text::put_number` calls itself on a smaller number, which is the measure.
-use Rattle.report.proofs.text.+put_number.Given as goal
-
-abbrev pub decreases-put_number : goal.decreases-put_number
-decreases-put_number l = l.n
