@@ -56,8 +56,8 @@ impl fmt::Display for What {
 pub struct Difference {
     what: What,
     place: usize,
-    came: u64,
-    wanted: u64,
+    came: u32,
+    wanted: u32,
 }
 
 impl fmt::Display for Difference {
@@ -77,7 +77,7 @@ impl fmt::Display for Difference {
 }
 
 // The difference of two numbers that stand at a place.
-fn at_place(what: What, place: usize, came: u64, wanted: u64) -> Option<Difference> {
+fn at_place(what: What, place: usize, came: u32, wanted: u32) -> Option<Difference> {
     if came == wanted {
         return None;
     }
@@ -90,12 +90,12 @@ fn at_place(what: What, place: usize, came: u64, wanted: u64) -> Option<Differen
 }
 
 // The difference of two numbers.
-pub fn differs<N: Into<u64>>(what: What, came: N, wanted: N) -> Option<Difference> {
+pub fn differs<N: Into<u32>>(what: What, came: N, wanted: N) -> Option<Difference> {
     at_place(what, 0, came.into(), wanted.into())
 }
 
 // The first difference of the items of a buffer, of which each place must hold what is wanted there.
-pub fn items_differ<N: Into<u64> + Copy, F: Fn(usize) -> N>(
+pub fn items_differ<N: Into<u32> + Copy, F: Fn(usize) -> N>(
     what: What,
     came: &[N],
     wanted: F,

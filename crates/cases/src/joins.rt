@@ -6,7 +6,8 @@ use join::join::join;
 
 // joins.bin: the tour, the edition, and what is written.
 pub fn join_differs(rest: &mut Stream, record: u32, house: &[u8]) -> Option<Difference> {
-    let tour = rest.text();
+    let n = rest.long();
+    let tour = rest.bytes(n);
     let edition = rest.edition();
     written_differs(rest, record, |out| join(house, tour, edition, out))
 }

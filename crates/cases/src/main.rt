@@ -14,6 +14,7 @@ mod stream;
 
 use difference::Difference;
 use joins::join_differs;
+use noise::SIZE;
 use parted::{list_differs, part_differs};
 use readers::readers_differ;
 use records::{
@@ -45,7 +46,9 @@ fn try_counted<
     requires counts { C.IsAlwaysCallable count }
     requires compares { D.IsAlwaysCallable differs }
 {
-    let bytes = bytes_of(rt, file)?;
+    let mut bytes = bytes_of(rt, file)?;
+    // A field that runs past the file's end is read on into zeros.
+    bytes.extend_from_slice(&[0; SIZE])?;
     let mut rest = Stream::new(bytes.as_slice());
     let mut records: u32 = 0;
     let mut same: u32 = 0;

@@ -12,11 +12,12 @@ use std::array;
 // parts.bin and lists.bin: the edition, how many words of list are borrowed, the refusal, and the words, past which the list is as it was.
 pub fn list_differs(rest: &mut Stream, record: u32, table: &[u8]) -> Option<Difference> {
     let edition = rest.edition();
-    let n = rest.size();
+    let k = rest.size();
     let refused = rest.number();
-    let words = rest.text();
+    let n = rest.long() / 2;
+    let words = rest.words(n);
     let mut list: [u16; SIZE] = array::from_fn(|i| noise(record, i));
-    let came = listing_number(parts(table, edition, &mut list[..n]));
+    let came = listing_number(parts(table, edition, &mut list[..k]));
     differs(What::Refused, came, refused).or(words_differ(What::List, &list, words, record))
 }
 

@@ -31,7 +31,7 @@ pub fn base_differs(rest: &mut Stream, record: u32, table: &[u8]) -> Option<Diff
         log: 2051,
         scratch: 32773,
         numbers,
-        words: rest.bytes(2 * lines),
+        words: rest.words(lines),
     };
     run_differs(record, table, want)
 }
@@ -43,19 +43,24 @@ fn fields_differ(
     table: &[u8],
     edition: Edition,
 ) -> Option<Difference> {
+    let budget = rest.number();
+    let log = rest.size();
+    let scratch = rest.size();
+    let numbers = Numbers {
+        refused: rest.number(),
+        finished: rest.number(),
+        lines: rest.number(),
+        worked: rest.number(),
+        spent: rest.number(),
+    };
+    let n = rest.long() / 2;
     let want = Run {
         edition,
-        budget: rest.number(),
-        log: rest.size(),
-        scratch: rest.size(),
-        numbers: Numbers {
-            refused: rest.number(),
-            finished: rest.number(),
-            lines: rest.number(),
-            worked: rest.number(),
-            spent: rest.number(),
-        },
-        words: rest.text(),
+        budget,
+        log,
+        scratch,
+        numbers,
+        words: rest.words(n),
     };
     run_differs(record, table, want)
 }
@@ -72,8 +77,10 @@ pub fn told_differ(rest: &mut Stream, record: u32, table: &[u8]) -> Option<Diffe
 }
 
 // The length, and then each byte, 0 past the end of what is wanted.
-fn text_differs(length: usize, came: &[u8], text: &[u8]) -> Option<Difference> {
-    differs(What::Length, length as u64, text.len() as u64).or(items_differ(
+fn text_differs(length: usize, came: &[u8], rest: &mut Stream) -> Option<Difference> {
+    let n = rest.long();
+    let text = rest.bytes(n);
+    differs(What::Length, (length % 65536) as u32, n).or(items_differ(
         What::Byte,
         came,
         |i| text.get(i).copied().unwrap_or(0),
@@ -84,13 +91,13 @@ fn text_differs(length: usize, came: &[u8], text: &[u8]) -> Option<Difference> {
 pub fn body_differs(rest: &mut Stream, table: &[u8]) -> Option<Difference> {
     let edition = rest.edition();
     let came = body(table, edition, rest.number() as usize);
-    text_differs(came.len(), came, rest.text())
+    text_differs(came.len(), came, rest)
 }
 
 // The text of the sheet.
 pub fn sheet_differs(rest: &mut Stream, table: &[u8]) -> Option<Difference> {
     let sheet = sheet_of(table);
-    text_differs(sheet.length, &sheet.bytes, rest.text())
+    text_differs(sheet.length, &sheet.bytes, rest)
 }
 
 // How many bytes of output are borrowed, the refusal, and the new file, past which the output is as it was: what a call answers that writes
@@ -102,13 +109,14 @@ pub fn written_differs<F: FnOnce(&mut [u8]) -> Result<u32, Refusal>>(
 ) -> Option<Difference>
     requires { F.IsAlwaysCallable write }
 {
-    let n = rest.size();
+    let k = rest.size();
     let refused = rest.number();
-    let text = rest.text();
+    let n = rest.long();
+    let text = rest.bytes_left(n);
     let mut out: [u8; SIZE] = array::from_fn(|i| noise_byte(record, i));
-    let came = WrittenNumbers::from(write(&mut out[..n]));
+    let came = WrittenNumbers::from(write(&mut out[..k]));
     differs(What::Refused, came.refused, refused)
-        .or(differs(What::Length, u64::from(came.bytes), text.len() as u64))
+        .or(differs(What::Length, came.bytes, n))
         .or(items_differ(What::Byte, &out, |i| {
             text.get(i)
                 .copied()

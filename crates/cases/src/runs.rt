@@ -3,6 +3,7 @@ ghost use Rattle.std.specs.Prelude.{◌≤◌};
 
 use crate::difference::{Difference, What, differs, items_differ};
 use crate::noise::{SIZE, noise};
+use crate::stream::Words;
 use engine::answer::Numbers;
 use engine::run::run;
 use std::array;
@@ -10,7 +11,7 @@ use table::edition::Edition;
 use table::judge::judge;
 
 // A run: the edition, the budget and how many words of log and of scratch are borrowed; the numbers that must come out, and the words of
-// the log, two bytes each.
+// the log.
 #[derive(Clone, Copy)]
 pub struct Run<'a> {
     pub edition: Edition,
@@ -18,7 +19,7 @@ pub struct Run<'a> {
     pub log: usize,
     pub scratch: usize,
     pub numbers: Numbers,
-    pub words: &'a [u8],
+    pub words: Words<'a>,
     pub ghost in_buffers: { (log ≤ 65536) × (scratch ≤ 65536) },
 }
 
@@ -37,14 +38,13 @@ fn numbers_differ(judged: u32, came: Numbers, want: Numbers) -> Option<Differenc
         .or(differs(What::Spent, came.spent, want.spent))
 }
 
-// A log or a list must hold words, two bytes each, and noise past them.
-pub fn words_differ(what: What, came: &[u16], words: &[u8], seed: u32) -> Option<Difference> {
-    let (words, _) = words.as_chunks::<2>();
-    items_differ(what, came, |i| {
-        words
-            .get(i)
-            .map_or_else(|| noise(seed, i), |word| u16::from_le_bytes(*word))
-    })
+// A log or a list must hold words, and noise past them.
+pub fn words_differ(what: What, came: &[u16], words: Words, seed: u32) -> Option<Difference> {
+    items_differ(
+        what,
+        came,
+        |i| words.get(i).unwrap_or_else(|| noise(seed, i)),
+    )
 }
 
 // The scratch must be 0 where a run cleared it.

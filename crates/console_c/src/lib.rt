@@ -1,4 +1,5 @@
-// The exports that a console written in C links (include/flyrules.h). Each is the function of crate console of its name, with its contract.
+// The exports that a console written in C links (include/flyrules.h). Each is the function of crate console of its name, with its contract: a
+// crate is a library or a static library, and not both.
 #![tactic(auto)]
 
 ghost use Rattle.std.specs.Prelude.{◌≡◌};

@@ -1,4 +1,5 @@
-// Conclusions are tried: what follows from what is processed, and is not written, is written at the end of the log.
+// Conclusions are tried: what follows from what is processed, and is not written, is written at the end of the log. A tag is a number here
+// too: a conclusion is four times its literal and the tag (document 01).
 ghost use Rattle.std.specs.Prelude.{◌+◌, ◌*◌, ◌%◌, ◌<◌, ◌≡◌, true, false, [], ◌∷◌, eqb};
 ghost use Rattle.logic.specs.Tests.{◌or◌, isnt};
 ghost use Rattle.logic.specs.Theory.{complement};
@@ -32,7 +33,7 @@ fn write_line(table: Table, mem: &mut [u16], log: &mut [u16], count: &mut u32, x
     requires { Logged (theory_said table) mem.old log.old count.old × (x < tag_count * (2 * table.sizes.atoms)) × (written_of mem.old x ≡ false) × ((plain_system (theory_said table)).infers (held_of mem.old) x ≡ true) }
     ensures { Tried (theory_said table.entry) (x ∷ []) mem.old log.old count.old mem.new log.new count.new }
 {
-    write(table, mem, x);
+    write(table.layout, table.sizes, mem, x);
     log[*count as usize] = x;
     *count += 1;
 }
@@ -95,8 +96,9 @@ impl Lines<'_> {
         ensures lent { Lent self.old self.new }
     {
         let mem = &mut *self.mem;
-        if visits(definite, is_strict(self.table, mem, r)) {
-            let head = head_of(self.table, mem, r);
+        let table = self.table;
+        if visits(definite, is_strict(table.layout, table.sizes, mem, r)) {
+            let head = head_of(table.layout, table.sizes, mem, r);
             self.try_both(head);
         }
     }

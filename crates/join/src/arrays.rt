@@ -15,9 +15,9 @@ fn write_rules_of_both(out: &mut [u8], at: usize, side: Side, house: Table, tour
     requires { at ≤ 50000 }
     ensures { RulesOfBoth side house.entry.layout.now house.entry.sizes tour.entry.layout.now tour.entry.sizes out.old at out.new result }
 {
-    write_rules(out, at, side, house);
+    write_rules(out, at, side, house.layout, house.sizes);
     let rules = at + 2 * usize::from(house.sizes.rules);
-    write_rules(out, rules, side, tour);
+    write_rules(out, rules, side, tour.layout, tour.sizes);
     let entries = rules + 2 * usize::from(tour.sizes.rules);
     write_entries(out, entries, side, house, 0);
     let more = entries + 2 * usize::from(house.sizes.entries);

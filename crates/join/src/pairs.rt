@@ -37,6 +37,7 @@ fn write_added(
 {
     let mut place = at;
     let mut j = start;
+    // No range has these rules: each is read from the chain.
     while j < rules.n {
         put_word(out, place, word_in(side, rule, later + j));
         place += 2;

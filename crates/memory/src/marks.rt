@@ -1,14 +1,15 @@
-// Which conclusions are written.
+// Which conclusions are written: the mark of a conclusion is 0 where it is not written, 1 where it is, and 2 once it is processed, as
+// `written_of` and `held_of` have it.
 ghost use Rattle.std.specs.Prelude.{◌+◌, ◌*◌, ◌≤◌, ◌<◌, ◌≡◌, false, length};
 ghost use Rattle.logic.specs.Tests.{◌or◌};
-ghost use Rattle.table.specs.Tables.{theory_said};
+ghost use Rattle.table.specs.Format.{theory_in};
 ghost use Rattle.memory.specs.Layout.{tag_count, field_size, memory_size};
 ghost use Rattle.memory.specs.Memory.{written_of, Ready};
 ghost use Rattle.memory.specs.Api.{Wrote};
 
 use crate::layout::TAGS;
 use crate::words::{load, store};
-use table::accepted::Table;
+use table::format::Sizes;
 use values::either;
 
 // Whether tag t of literal q is written, or tag t + 1.
@@ -20,9 +21,10 @@ pub fn either_written(mem: &[u16], q: u16, t: u16) -> bool
     either(first, load(mem, t as usize + 1, q as usize) != 0)
 }
 
-pub fn write(table: Table, mem: &mut [u16], x: u16)
-    requires { Ready (theory_said table) mem.old × (x < tag_count * (2 * table.sizes.atoms)) × (written_of mem.old x ≡ false) }
-    ensures { Wrote (theory_said table.entry) x mem.old mem.new }
+// It takes no `Table`, which would ask for a legal one.
+pub fn write(table: &[u8], s: Sizes, mem: &mut [u16], x: u16)
+    requires { Ready (theory_in table.now s) mem.old × (s.atoms ≤ 512) × (x < tag_count * (2 * s.atoms)) × (written_of mem.old x ≡ false) }
+    ensures { Wrote (theory_in table.now s) x mem.old mem.new }
 {
     store(mem, usize::from(x % TAGS), usize::from(x / TAGS), 1);
 }

@@ -41,7 +41,7 @@ pub fn uses_of(table: Table, mem: &[u16], p: u16) -> Uses
     Uses { first, end }
 }
 
-// The rule of the k-th use, which is one of literal p. It takes no `Table`, which would ask for a legal one.
+// The rule of the k-th use, which is one of literal p. It and the two below take no `Table`, which would ask for a legal one.
 pub fn user_at(table: &[u8], s: Sizes, mem: &[u16], p: u16, uses: Uses, k: usize) -> u16
     requires { Ready (theory_in table.now s) mem.now × (p < 2 * s.atoms) × UsesAt (theory_in table.now s) p uses.first uses.end × (uses.first ≤ k) × (k < uses.end) }
     ensures { result ≡ get_or (users (theory_in table.now s) p) (k - uses.first) 0 }
@@ -49,16 +49,16 @@ pub fn user_at(table: &[u8], s: Sizes, mem: &[u16], p: u16, uses: Uses, k: usize
     load_use(mem, k)
 }
 
-pub fn head_of(table: Table, mem: &[u16], r: u16) -> u16
-    requires { Ready (theory_said table) mem.now × (r < table.sizes.rules) }
-    ensures { result ≡ head_of (theory_said table.entry) r }
+pub fn head_of(table: &[u8], s: Sizes, mem: &[u16], r: u16) -> u16
+    requires { Ready (theory_in table.now s) mem.now × (r < s.rules) × (s.rules ≤ field_size) }
+    ensures { result ≡ head_of (theory_in table.now s) r }
 {
     load(mem, HEAD, r as usize)
 }
 
-pub fn is_strict(table: Table, mem: &[u16], r: u16) -> bool
-    requires { Ready (theory_said table) mem.now × (r < table.sizes.rules) }
-    ensures { result ≡ is_strict (kind_of (theory_said table.entry) r) }
+pub fn is_strict(table: &[u8], s: Sizes, mem: &[u16], r: u16) -> bool
+    requires { Ready (theory_in table.now s) mem.now × (r < s.rules) × (s.rules ≤ field_size) }
+    ensures { result ≡ is_strict (kind_of (theory_in table.now s) r) }
 {
     is_strict_by(mem, r as usize)
 }

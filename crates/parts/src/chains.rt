@@ -31,6 +31,7 @@ impl Parents {
         ensures { Climbed self.old.of atom self.new.of result }
     {
         let mut a = atom;
+        // No range has these atoms: each is read from the one before.
         while self.of[usize::from(a)] != a {
             let up = self.of[usize::from(self.of[usize::from(a)])];
             self.of[usize::from(a)] = up;

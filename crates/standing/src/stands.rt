@@ -10,8 +10,8 @@ use table::edition::Edition;
 use table::judge::Refusal;
 use values::{both, either};
 
-// By the marks of the lines: one pass over the entries, with two tests and no array, which takes less stack and time than `standings_of` of
-// all rules.
+// By the marks of the lines: one pass over the entries, with two tests and no array. `standings_of`, of all rules, puts 2,048 bytes of arrays
+// on the stack beside the 4,096 of the marks; the header promises a limit of what the call takes.
 fn standing_by(table: Table, rule: u32, marks: &[u8]) -> Standing
     ensures { meant result ≡ standing_by table.entry.layout.now table.entry.sizes rule marks.now }
 {

@@ -1,9 +1,10 @@
-// Fault 7 of document 01: Kahn's algorithm on the pairs, in local arrays. A rule is released once every rule that is stronger than
+// Fault 7 of document 01: Kahn's algorithm on the pairs, in local arrays, since no heap is allowed. That the pairs are in order is asked
+// for, as within one file a type for it would be a layer more to read. A rule is released once every rule that is stronger than
 // it was released; there is a cycle exactly if some rule never is.
 ghost use Rattle.std.specs.Prelude.{ℕ, ◌+◌, ◌-◌, ◌≤◌, ◌<◌, ◌*◌, ◌≡◌, false, eqb, length, get_or, take, set};
 ghost use Rattle.logic.specs.Tests.{count_below};
 ghost use Rattle.table.specs.Format.{pair_at, theory_in};
-ghost use Rattle.table.specs.Refusals.{out_of_range, oversize, disorder, cycle};
+ghost use Rattle.table.specs.Refusals.{out_of_range, disorder, cycle};
 ghost use Rattle.table.specs.Pairs.{PairsInOrder};
 ghost use Rattle.table.specs.Release.{Runs, Zeros, Reached, Pushed};
 
@@ -121,7 +122,7 @@ fn released(
 
 // 7: the pairs lead from some rule back to itself.
 pub fn has_cycle(layout: Layout) -> bool
-    requires { (oversize layout.sizes ≡ false) × (out_of_range layout.bytes.now layout.sizes ≡ false) × (disorder layout.bytes.now layout.sizes ≡ false) }
+    requires { (out_of_range layout.bytes.now layout.sizes ≡ false) × (disorder layout.bytes.now layout.sizes ≡ false) }
     ensures { result ≡ cycle layout.entry.bytes.now layout.entry.sizes }
 {
     let rules = layout.sizes.rules;

@@ -1,5 +1,6 @@
 // Document 01, The table, and document 02, S-5: literals, rules, sizes, and what stands at each place of a file's layout (edition.rt).
-// Every function is total: a reader gives what its definition in specs/Format.antt says for every layout, sizes and index.
+// Every function is total: a reader gives what its definition in specs/Format.antt says for every layout, sizes and index. Casts by `as`
+// stay in this crate: the check sees through one, where a call would be a fact more.
 ghost use Rattle.std.specs.Prelude.{◌+◌, ◌*◌, ◌≤◌, ◌<◌, ◌≡◌, cond, ltb, length};
 ghost use Rattle.logic.specs.Theory.{complement, atom};
 ghost use Rattle.table.specs.Format.{word, sizes_of, span_of, left, right, left_in, right_in, kind_of, kind_number, origin_of, origin_number, fact_at, rule_at, entry_at, pair_at};
@@ -129,18 +130,12 @@ impl Sizes {
     }
 }
 
-fn join(low: u8, high: u8) -> u16
-    ensures { result ≡ low + 256 * high }
-{
-    u16::from_le_bytes([low, high])
-}
-
 // The 16-bit word at an index that is within the layout.
 pub(crate) fn word_within(layout: &[u8], i: usize) -> u16
     requires { 2 * i + 2 ≤ length layout.now }
     ensures { result ≡ word layout.now i }
 {
-    join(layout[2 * i], layout[2 * i + 1])
+    u16::from_le_bytes([layout[2 * i], layout[2 * i + 1]])
 }
 
 // The 16-bit word at an index, 0 past the end.
@@ -189,6 +184,8 @@ pub fn read_fact(layout: &[u8], s: Sizes, i: usize) -> Literal
     Literal(section_word(layout, right, 0, s.facts, i))
 }
 
+// A kind, and an origin, by its number. They are total, as their definitions are, so that neither is a `From`, which would say that every
+// number is a kind's.
 #[tactic(auto, unfolding(crate::specs::Format::kind_of))]
 fn kind_of(n: u16) -> Kind
     ensures { result ≡ kind_of n }

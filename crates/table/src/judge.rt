@@ -1,7 +1,7 @@
 // Document 01, What the console turns away, with document 02, S-5: the judgement of a table.
-ghost use Rattle.std.specs.Prelude.{◌≡◌, false};
+ghost use Rattle.std.specs.Prelude.{◌≡◌};
 ghost use Rattle.table.specs.Format.{sizes_of};
-ghost use Rattle.table.specs.Refusals.{number_of, oversize, judged, Judged};
+ghost use Rattle.table.specs.Refusals.{number_of, judged, Judged};
 
 use crate::cycle::has_cycle;
 use crate::edition::{Edition, is_unmarked, layout};
@@ -62,9 +62,8 @@ impl From<Refusal> for u32 {
     }
 }
 
-// Of a layout with few enough atoms, facts, rules, entries and pairs, and with a place for each.
+// By the words of a layout, 4 to 7.
 fn judge_words(layout: Layout, edition: Edition) -> Result<Sizes, Refusal>
-    requires { oversize layout.sizes ≡ false }
     ensures { result ≡ judged edition layout.entry.bytes.now layout.entry.sizes }
 {
     if bad_kind(layout, edition) {

@@ -39,7 +39,7 @@ fn key(layout: &[u8], left: usize, right: usize, i: usize) -> u32
     65536 * (word_within(layout, left + i) as u32) + low as u32
 }
 
-// The key of a section's first entry, if it has one.
+// The key of a section's first entry; of a section without one any number, since the loop that takes it has no turn then.
 fn first_key(layout: &[u8], left: usize, right: usize, n: usize) -> u32
     requires { (2 * (left + n) ≤ length layout.now) × (2 * (right + n) ≤ length layout.now) × (left ≤ 196610) × (right ≤ 458750) }
     ensures { 0 < n → Key layout.now left right 0 result }

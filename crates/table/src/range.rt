@@ -1,8 +1,8 @@
 // Faults 4 and 5 of document 01: words that are too large for their place.
-ghost use Rattle.std.specs.Prelude.{◌+◌, ◌*◌, ◌≤◌, ◌≡◌, false, leb, length};
+ghost use Rattle.std.specs.Prelude.{◌+◌, ◌*◌, ◌≤◌, ◌≡◌, leb, length};
 ghost use Rattle.logic.specs.Tests.{some};
 ghost use Rattle.table.specs.Format.{word};
-ghost use Rattle.table.specs.Refusals.{oversize, bad_left, bad_rule, bad_kind, out_of_range};
+ghost use Rattle.table.specs.Refusals.{bad_left, bad_rule, bad_kind, out_of_range};
 
 use crate::edition::Edition;
 use crate::format::word_within;
@@ -56,7 +56,6 @@ pub fn bad_kind(layout: Layout, edition: Edition) -> bool
 
 // 5: a literal not below 2A, or a rule number not below N.
 pub fn out_of_range(layout: Layout) -> bool
-    requires { oversize layout.sizes ≡ false }
     ensures { result ≡ out_of_range layout.entry.bytes.now layout.entry.sizes }
 {
     let s = layout.sizes;

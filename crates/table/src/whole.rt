@@ -1,6 +1,8 @@
-// A layout that has as many bytes as its sizes say: what is left to judge once fault 3 is ruled out.
-ghost use Rattle.std.specs.Prelude.{◌+◌, ◌*◌, ◌≡◌, length};
+// A layout of which faults 2 and 3 are ruled out: its sizes are within their limits, and it has as many bytes as they say. What is left to
+// judge.
+ghost use Rattle.std.specs.Prelude.{◌+◌, ◌*◌, ◌≡◌, false, length};
 ghost use Rattle.table.specs.Format.{span_of};
+ghost use Rattle.table.specs.Refusals.{oversize};
 
 use crate::format::{Pair, Sizes, pair_of, words_within};
 
@@ -8,6 +10,7 @@ use crate::format::{Pair, Sizes, pair_of, words_within};
 pub struct Layout<'a> {
     pub bytes: &'a [u8],
     pub sizes: Sizes,
+    pub ghost small: { oversize sizes ≡ false },
     pub ghost whole: { length bytes.now ≡ 10 + 4 * span_of sizes },
 }
 

@@ -10,7 +10,7 @@ ghost use Rattle.writing.specs.Columns.{word_in, with_words, column};
 
 use table::accepted::Table;
 use table::edition::Edition;
-use table::format::{Rule, Sizes};
+use table::format::{Rule, Sizes, read_rule};
 
 // The two arrays of a table. An enum and no closure: of a closure from a row to its word each function would have to require what it gives,
 // and a side has one law, `word_in`.
@@ -113,13 +113,13 @@ pub fn left_of(rule: Rule) -> u16
     u16::from(rule.kind) + 4 * u16::from(rule.origin)
 }
 
-// The rules of a table.
-pub fn write_rules(out: &mut [u8], at: usize, side: Side, table: Table)
+// The rules of a layout. Any layout and sizes serve, which a `Table` would not say.
+pub fn write_rules(out: &mut [u8], at: usize, side: Side, layout: &[u8], s: Sizes)
     requires { at ≤ 4000000 }
-    ensures { out.new ≡ with_words out.old at (column side (λ r. rule_row (rule_at table.entry.layout.now table.entry.sizes r)) table.entry.sizes.rules) }
+    ensures { out.new ≡ with_words out.old at (column side (λ r. rule_row (rule_at layout.now s r)) s.rules) }
 {
-    for i in 0..usize::from(table.sizes.rules) {
-        let rule = table.rule(i);
+    for i in 0..usize::from(s.rules) {
+        let rule = read_rule(layout, s, i);
         put_word(out, at + 2 * i, word_in(side, left_of(rule), rule.head.0));
     }
 }

@@ -2,11 +2,10 @@
 use native.Mathlib.Omega.{arith}
 use mathlib.Core.Path.{◌∙◌}
 use Rattle.table.specs.Format.{theory_in}
-use Rattle.table.proofs.Legal.{limited}
 use Rattle.memory.proofs.uses.head_of.Goals as goal
 
 pub load-requires : goal.load-requires
-load-requires c = (omega arith, omega (arith, (limited _ c.args.table.legal.limits).rules), c.requires.0.invariant.room)
+load-requires c = (omega arith, omega (arith, c.requires.2), c.requires.0.invariant.room)
 
 pub returns : goal.returns
 unfolding theory_in

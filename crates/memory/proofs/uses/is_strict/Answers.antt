@@ -3,12 +3,11 @@ use native.Mathlib.Omega.{arith}
 use mathlib.Core.Path.{◌∙◌, ap}
 use lib.Dec.{eqb}
 use Rattle.table.specs.Format.{theory_in}
-use Rattle.table.proofs.Legal.{limited}
 use Rattle.memory.proofs.index.Kinds.{strict_number}
 use Rattle.memory.proofs.uses.is_strict.Goals as goal
 
 pub is_strict_by-requires : goal.is_strict_by-requires
-is_strict_by-requires c = (omega (arith, (limited _ c.args.table.legal.limits).rules), c.requires.0.invariant.room)
+is_strict_by-requires c = (omega (arith, c.requires.2), c.requires.0.invariant.room)
 
 pub returns : goal.returns
 unfolding theory_in

@@ -9,25 +9,25 @@ use Rattle.table.proofs.cycle.has_cycle.Goals as goal
 
 pub count_stronger-requires : goal.count_stronger-requires
 count_stronger-requires c =
-    let in_order : PairsInOrder (theory_in c.args.layout.bytes.now c.args.layout.sizes) = ordered _ _ c.requires.0 c.requires.1 c.requires.2 in
+    let in_order : PairsInOrder (theory_in c.args.layout.bytes.now c.args.layout.sizes) = ordered _ _ c.args.layout.small c.requires.0 c.requires.1 in
     (in_order, λ w h. get_or-replicate 1024 w 0 0 h)
 
 pub find_runs-requires : goal.find_runs-requires
 find_runs-requires c =
-    let in_order : PairsInOrder (theory_in c.args.layout.bytes.now c.args.layout.sizes) = ordered _ _ c.requires.0 c.requires.1 c.requires.2 in
+    let in_order : PairsInOrder (theory_in c.args.layout.bytes.now c.args.layout.sizes) = ordered _ _ c.args.layout.small c.requires.0 c.requires.1 in
     in_order
 
 pub start-end-requires : goal.start-end-requires
 unfolding theory_in
 start-end-requires c =
-    let in_order : PairsInOrder (theory_in c.args.layout.bytes.now c.args.layout.sizes) = ordered _ _ c.requires.0 c.requires.1 c.requires.2 in
+    let in_order : PairsInOrder (theory_in c.args.layout.bytes.now c.args.layout.sizes) = ordered _ _ c.args.layout.small c.requires.0 c.requires.1 in
     let small : c.args.layout.sizes.rules ≤ 1024 = (in_order).small in
     small
 
 pub released-all-requires : goal.released-all-requires
 unfolding theory_in
 released-all-requires c =
-    let in_order : PairsInOrder (theory_in c.args.layout.bytes.now c.args.layout.sizes) = ordered _ _ c.requires.0 c.requires.1 c.requires.2 in
+    let in_order : PairsInOrder (theory_in c.args.layout.bytes.now c.args.layout.sizes) = ordered _ _ c.args.layout.small c.requires.0 c.requires.1 in
     let small : c.args.layout.sizes.rules ≤ 1024 = (in_order).small in
     record {
       pairs_in_order = (
@@ -40,6 +40,6 @@ released-all-requires c =
 
 pub returns : goal.returns
 returns c =
-    let in_order : PairsInOrder (theory_in c.args.layout.bytes.now c.args.layout.sizes) = ordered _ _ c.requires.0 c.requires.1 c.requires.2 in
+    let in_order : PairsInOrder (theory_in c.args.layout.bytes.now c.args.layout.sizes) = ordered _ _ c.args.layout.small c.requires.0 c.requires.1 in
     table_end _ _ (in_order) _ _ _ (omega (arith, c.released-all.ensures.0, c.released-all.auto.queue, c.start-end.auto.queue))
     c.released-all.ensures.1

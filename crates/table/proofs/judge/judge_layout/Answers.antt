@@ -1,4 +1,6 @@
 -- `table::judge::judge_layout` meets its contract. Assumes nothing.
+use mathlib.Core.Path.{◌∙◌, ap}
+use Prim.Native.Nat.{◌+◌, ◌*◌}
 use Rattle.table.proofs.Judging.{over_atoms, over_facts_or_rules, over_entries_or_pairs, within, wrong_length_lem, by_sizes, judged_2, judged_3}
 use Rattle.table.proofs.judge.judge_layout.Goals as goal
 
@@ -17,5 +19,9 @@ returns-then-bytes-span c =
     (judged_3 _ _ _ (within _ c.if-sizes-gt-MAX_ATOMS.false c.either.ensures c.if-either.false c.either-2.ensures c.if-either-2.false)
     (wrong_length_lem _ _ _ c.span.ensures c.if-bytes-span.true))
 
-pub judge_words-requires : goal.judge_words-requires
-judge_words-requires c = within _ c.if-sizes-gt-MAX_ATOMS.false c.either.ensures c.if-either.false c.either-2.ensures c.if-either-2.false
+pub invariant_of-judge_words : goal.invariant_of-judge_words
+invariant_of-judge_words c =
+    record {
+      small = within _ c.if-sizes-gt-MAX_ATOMS.false c.either.ensures c.if-either.false c.either-2.ensures c.if-either-2.false;
+      whole = c.if-bytes-span.false ∙ ap (λ k. 10 + 4 * k) c.span.ensures;
+    }

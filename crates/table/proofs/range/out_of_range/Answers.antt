@@ -7,7 +7,7 @@ use Rattle.table.proofs.Legal.{limited}
 use Rattle.table.proofs.range.out_of_range.Goals as goal
 
 pub overflow_mul-literals : goal.overflow_mul-literals
-overflow_mul-literals c = record { fits = omega (arith, (limited _ c.requires).atoms) }
+overflow_mul-literals c = record { fits = omega (arith, (limited _ c.args.layout.small).atoms) }
 
 pub returns : goal.returns
 unfolding out_of_range

@@ -7,10 +7,10 @@ use Rattle.writing.proofs.columns.write_rules.Goals as goal
 pub loop-i-init : goal.loop-i-init
 loop-i-init c =
     let args = c.args in
-    column_none args.side (λ i. rule_row (rule_at args.table.layout.now args.table.sizes i)) args.out.now args.at
+    column_none args.side (λ i. rule_row (rule_at args.layout.now args.s i)) args.out.now args.at
 
 pub loop-i-preserved : goal.loop-i-preserved
 loop-i-preserved c =
     let args = c.args in
-    column_next args.side (λ i. rule_row (rule_at args.table.layout.now args.table.sizes i)) args.out.now args.at c.loop-i.i c.loop-i.invariant
-    (left_word args.side c.rule-rule.ensures c.left_of.ensures c.word_in.ensures) c.put_word.ensures
+    column_next args.side (λ i. rule_row (rule_at args.layout.now args.s i)) args.out.now args.at c.loop-i.i c.loop-i.invariant
+    (left_word args.side c.read_rule-rule.ensures c.left_of.ensures c.word_in.ensures) c.put_word.ensures

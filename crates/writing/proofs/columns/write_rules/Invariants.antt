@@ -6,4 +6,4 @@ use Rattle.writing.specs.Columns.{with_words, column}
 use Rattle.writing.proofs.columns.write_rules.Given as goal
 
 abbrev pub invariant-loop-i : goal.invariant-loop-i
-invariant-loop-i l = l.out ≡ with_words l.initial.out l.at (column l.side (λ i. rule_row (rule_at l.table.layout.now l.table.sizes i)) l.i)
+invariant-loop-i l = l.out ≡ with_words l.initial.out l.at (column l.side (λ i. rule_row (rule_at l.layout l.s i)) l.i)

@@ -1,6 +1,13 @@
 -- `Lines::try_rule` meets its contract. Assumes nothing.
+use Rattle.table.proofs.Legal.{limited}
 use Rattle.engine.proofs.run.Users.{head_small, rule_skipped, rule_visited}
 use Rattle.engine.proofs.lines.Lines.try_rule.Goals as goal
+
+pub is_strict-requires : goal.is_strict-requires
+is_strict-requires c = let lines = c.args.self.now in (lines.logged.ready, c.requires, (limited _ lines.table.legal.limits).rules)
+
+pub head_of-head-requires : goal.head_of-head-requires
+head_of-head-requires c = let lines = c.args.self.now in (lines.logged.ready, c.requires, (limited _ lines.table.legal.limits).rules)
 
 pub try_both-requires : goal.try_both-requires
 try_both-requires c =
