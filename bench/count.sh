@@ -1,14 +1,17 @@
 # Sourced by the scripts beside it, whose first argument is the archive (target/staticlib/libconsole.a): builds once.c, and counts the
-# instructions of one call.
+# instructions of one call. With WITHOUT_READING=1 in the environment the archive is one of before S-9, whose fly_run is told no reading.
 set -eu
 here=$(cd "$(dirname "$0")" && pwd); archive=${1:?the archive: target/staticlib/libconsole.a}
 tmp=$(mktemp -d); trap 'rm -r "$tmp"' EXIT
-# Bound at the start, so that no symbol is looked up within a call.
-gcc -O2 -std=c11 -Wall -Wextra -Werror -pedantic -Wl,-z,now -I"$here/../include" "$here/once.c" "$here/c_engine.c" "$here/c_flags.c" \
-  "$archive" -o "$tmp/once"
+build() { # ARCHIVE [FLAG]: once with that archive
+  # Bound at the start, so that no symbol is looked up within a call.
+  gcc -O2 -std=c11 -Wall -Wextra -Werror -pedantic -Wl,-z,now ${2:-} -I"$here/../include" "$here/once.c" "$here/c_engine.c" \
+    "$here/c_flags.c" "$1" -o "$tmp/once"
+}
+build "$archive" ${WITHOUT_READING:+-DWITHOUT_READING}
 # glibc clears by `rep stosb`, of which callgrind counts an instruction for each byte; the tunable has it store whole vectors instead.
 export GLIBC_TUNABLES=glibc.cpu.x86_rep_stosb_threshold=1000000000
-finish=1000000 # a budget that every table finishes under
+finish=1000000 # a budget that every table finishes under in the plain reading
 
 table() { # SHAPE K: the table that is counted next
   python3 "$here/tables.py" "$1" "$2" > "$tmp/table"

@@ -1,10 +1,14 @@
-/* once FUNCTION [WHAT [WORDS]]: one call on the table on standard input, for count.sh to count. fly_sheet prints the sheet; fly_convert prints
- * the table in the other edition; fly_join takes the tour's file as WHAT, and prints the joined table; fly_parts prints the list, a word on each
- * line, and fly_part, which takes an atom as WHAT, the part's table; an engine
- * (fly_run, c_run, flags_run) takes a budget as WHAT, and its answer and log are printed, a number on each line. WORDS of log are lent, or
- * enough for every table. WHAT may be `judge`: then no scratch is lent, and an accepted table is refused by 8 once it is judged, and none
- * is cleared. Any other refusal is an error. fly_stands takes a rule number as WHAT, and its answer is printed. Its log is made before the
- * call: the lines of a run to its finish, or WORDS words, these lines over and over; none, if the run writes none. */
+/* once FUNCTION [WHAT [WORDS [READING]]]: one call on the table on standard input, for count.sh to count. fly_sheet prints the sheet;
+ * fly_convert prints the table in the other edition; fly_join takes the tour's file as WHAT, and prints the joined table; fly_parts prints the
+ * list, a word on each line, and fly_part, which takes an atom as WHAT, the part's table; an engine (fly_run, c_run, flags_run) takes a budget
+ * as WHAT, and its answer and log are printed, a number on each line. WORDS of log are lent, or enough for every table. fly_run is told READING,
+ * or the plain one, which is that of the other engines. WHAT may be `judge`: then no scratch is lent, and an accepted table is refused by 8 once
+ * it is judged, and none is cleared. Any other refusal is an error. fly_stands takes a rule number as WHAT, and its answer is printed. Its log
+ * is made before the call: the lines of a run to its finish, or WORDS words, these lines over and over; none, if the run writes none.
+ * With WITHOUT_READING it is built for an archive of before S-9, whose fly_run is told no reading. */
+#ifdef WITHOUT_READING
+#define fly_run fly_run_in_a_reading /* what the header declares, and this archive lacks */
+#endif
 #include "c_engine.h"
 #include "c_flags.h"
 
@@ -18,10 +22,21 @@ static uint32_t edition_of(size_t len)
     return len % 2 == 0 ? FLY_OLD : FLY_TWO;
 }
 
+#ifdef WITHOUT_READING
+#undef fly_run
+fly_answer fly_run(const uint8_t *table, size_t table_len, uint32_t edition, uint32_t budget, uint16_t *log, size_t log_len,
+                   uint16_t *scratch, size_t scratch_len);
+#define TOLD(edition, reading) edition
+#else
+#define TOLD(edition, reading) edition, reading
+#endif
+
+static uint32_t reading = FLY_PLAIN;
+
 static fly_answer run_table(const uint8_t *table, size_t table_len, uint32_t budget, uint16_t *log, size_t log_len, uint16_t *scratch,
                             size_t scratch_len)
 {
-    return fly_run(table, table_len, edition_of(table_len), budget, log, log_len, scratch, scratch_len);
+    return fly_run(table, table_len, TOLD(edition_of(table_len), reading), budget, log, log_len, scratch, scratch_len);
 }
 
 typedef fly_answer engine(const uint8_t *table, size_t table_len, uint32_t budget, uint16_t *log, size_t log_len, uint16_t *scratch,
@@ -101,12 +116,15 @@ int main(int argc, char **argv)
         free(lent);
         return 0;
     }
-    engine *run = argc == 3 || argc == 4 ? named(argv[1]) : NULL;
-    size_t words = argc == 4 ? strtoul(argv[3], NULL, 10) : FLY_LOG;
-    if (run == NULL || words > FLY_LOG)
+    engine *run = 3 <= argc && argc <= 5 ? named(argv[1]) : NULL;
+    size_t words = argc > 3 ? strtoul(argv[3], NULL, 10) : FLY_LOG;
+    if (argc == 5)
+        reading = (uint32_t)strtoul(argv[4], NULL, 10);
+    if (run == NULL || words > FLY_LOG || (run != run_table && reading != FLY_PLAIN))
         return fprintf(stderr, "usage: once fly_sheet | once fly_convert | once fly_join TOUR | once fly_parts | once fly_part ATOM | "
                                "once fly_stands RULE [WORDS] | "
-                               "once fly_run|c_run|flags_run BUDGET|judge [WORDS, at most %d]\n", FLY_LOG), 2;
+                               "once fly_run BUDGET|judge [WORDS, at most %d [READING]] | "
+                               "once c_run|flags_run BUDGET|judge [WORDS]\n", FLY_LOG), 2;
     int judging = strcmp(argv[2], "judge") == 0;
     fly_answer got = run(table, len, (uint32_t)strtoul(argv[2], NULL, 10), log, words, scratch, judging ? 0 : FLY_SCRATCH);
     if (got.refused != (judging ? 8 : 0))

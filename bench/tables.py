@@ -4,7 +4,8 @@ chain: each literal rests on the one before; star: all rules on one atom, pairs 
 random: seeded; full: every size at 1/K of its limit, rules of every kind, 4 antecedents to each, each of the first rules over the 4 after
 it; house and tour: half of that each, with facts of both and two rules of the tour against two of the house on each of the first atoms; joined:
 the two in one table, with every size at 1/K of its limit and half of the pairs added; up and down: rules from each atom to the next, or to the
-one before, round and round, with 4 antecedents each; empty: nothing, for any K."""
+one before, round and round, with 4 antecedents each; ring: each literal rests strictly on the one before, the first on the last; rounds: steps
+of which each waits for a search of the well-founded reading to decide the one before; empty: nothing, for any K."""
 import random, struct, sys
 shape, k = sys.argv[1], int(sys.argv[2])
 def table(a, facts, rules, pairs):
@@ -38,6 +39,18 @@ elif shape in ('up', 'down'):
     atom = lambda i: i if shape == 'up' else a - 1 - i
     steps = [(atom(i % (a - 1)), atom(i % (a - 1) + 1)) for i in range(n)]
     table(a, [], [(i % 3, 2 * to, [2 * of, 2 * of + 1, 2 * to, 2 * to + 1]) for i, (of, to) in enumerate(steps)], [])
+elif shape == 'ring':
+    a = 512 // k
+    table(a, [], [(0, 2 * (i % a), [2 * ((i - 1) % a)]) for i in range(1024 // k)], [])
+elif shape == 'rounds':
+    # x => x, => y (a), x => not y (b), => not y (c), and x rests on not y of the step before; a over c, b over a
+    steps = (1024 // k + 1) // 5
+    rules, pairs = [], []
+    for i in range(steps):
+        x, y, a = 4 * i, 4 * i + 2, len(rules)
+        rules += [(1, y, []), (1, y + 1, [x]), (1, y + 1, []), (1, x, [x])] + ([(1, x, [y - 3])] if i > 0 else [])
+        pairs += [(a, a + 2), (a + 1, a)]
+    table(2 * steps, [], rules, pairs)
 elif shape == 'star':
     n, p = 1024 // k, 2048 // k
     table(1, [], [(1, i % 2, []) for i in range(n)], [(i // 4, i // 4 + 1 + 2 * (i % 4)) for i in range(p)])

@@ -15,6 +15,13 @@
  * on the origins. fly_convert writes a table in the other edition; fly_join reads two tables of one edition, and writes a third in it; fly_part
  * writes a table in the edition of the one that it reads.
  *
+ * The reading. fly_run is told it by a number, one of fly_reading. Any other number is refused with FLY_TRUNCATED, whatever the table is.
+ * FLY_PLAIN gives what follows from the table line by line. A literal that only a loop of rules could prove is neither proved nor refuted there.
+ * FLY_WELL_FOUNDED gives these lines and refutes such literals: where no line is left to work, it searches the literals that nothing but each
+ * other could prove, first for −Δ and, if no line comes of it, for −∂; the new lines are worked, and it goes on until both searches, one after
+ * the other, add nothing. If it finishes, every line of a plain run is among its lines. In either reading no literal has a tag and its opposite,
+ * and the line of a tag is the same number. fly_sheet is of the plain reading; fly_stands takes the lines of both.
+ *
  * A line. The number 4q + tag: tag FLY_TAG(line) of literal FLY_LITERAL(line). Literal 2a says that atom a holds, literal 2a + 1 that it
  * does not: FLY_ATOM(line) is a, and FLY_OPPOSITE(line) is 1 where the line is about "it does not hold". The tags are in fly_tag.
  *
@@ -24,10 +31,10 @@
  * as well; words and bytes past what is used are left alone. A length is a count of elements: of words for log, scratch and list, of bytes for a
  * table and an output.
  *
- * A short log, of fewer than 4A words, serves too if it has a word for each line that the run writes under its budget; else the call is
- * refused with FLY_SHORT_LOG. That is known at the end of the run alone, so the run is made in memory on the stack, and its lines are
- * copied if they fit; if they do not, the caller's buffers stay as they were. A log that serves a budget serves every smaller one, and
- * perhaps no larger one. Under a budget below A+F+N+B+P no line is written, and a log of no words serves.
+ * A short log, of fewer than 4A words, serves too if it has a word for each line that the run writes in its reading under its budget; else the
+ * call is refused with FLY_SHORT_LOG. That is known at the end of the run alone, so the run is made in memory on the stack, and its lines are
+ * copied if they fit; if they do not, the caller's buffers stay as they were. A log that serves a budget serves every smaller one in the same
+ * reading, and perhaps no larger one. Under a budget below A+F+N+B+P no line is written, and a log of no words serves.
  *
  * How a rule stands. fly_stands says of one rule whether it fires, is out, or waits, by the words of a log, which is only read: the first
  * `lines` words that a run wrote, or its first `worked` ones, or any others, of any length, 0 too. A word that is no line of the table says
@@ -36,23 +43,27 @@
  *
  * Parts. Two atoms belong to one part if one rule names both, as the atom of its head or of an antecedent, and so on through chains of rules. An
  * atom that no rule names is a part of its own; facts and pairs tie no atoms together. fly_parts says for each atom to which part it belongs;
- * fly_part writes the table of one part, which can be run alone: if both runs finish, the part's atoms get the tags that the whole table gives them.
+ * fly_part writes the table of one part, which can be run alone: if both runs, in one reading, finish, the part's atoms get the tags that the
+ * whole table gives them.
  *
  * What a caller owes. Pointers are not NULL, even where a length is 0; each buffer has the length that is passed; buffers overlap neither
  * each other nor a table. Nothing else: what is wrong with a table or with a length is answered by a number (fly_refusal).
  *
- * Threads and stack. The functions keep no state between calls, allocate nothing, and call nothing of the C library but memcpy and
- * memset. Any number of threads may call them, each with its own buffers; a table, and the log of fly_stands, is only read and may be
- * shared. A run takes at most FLY_RUN_STACK bytes of stack, one with a short log FLY_SHORT_LOG_STACK, a sheet FLY_SHEET_STACK,
+ * Threads and stack. The functions keep no state between calls, allocate nothing, and call nothing of the C library but memcpy and memset.
+ * Any number of threads may call them, each with its own buffers; a table, and the log of fly_stands, is only read and may be shared. A run,
+ * in either reading, takes at most FLY_RUN_STACK bytes of stack, one with a short log FLY_SHORT_LOG_STACK, a sheet FLY_SHEET_STACK,
  * fly_stands FLY_STANDS_STACK, fly_convert FLY_CONVERT_STACK, fly_join FLY_JOIN_STACK, fly_parts FLY_PARTS_STACK, and fly_part
  * FLY_PART_STACK.
  *
- * The budget. A run spends at most its budget, and takes time in proportion to what it spends (docs/PERFORMANCE.md), after judging the
- * table, which takes time in proportion to the table. With a budget below A+F+N+B+P nothing is written. 5A+F+N+3B+3P finishes, and
- * so does FLY_MAX_SPENT for every table. Two runs of a table under different budgets: the lines of the smaller one are the
- * first lines of the larger one, in the same order. But a run does not go on where an earlier one stopped: each call judges the table
- * and works from the start, so a run under a growing budget costs the sum of its calls. Raise the budget by doubling it
- * (examples/console/loop.c), not by a small step; and where one call has time for b units, no number of calls gets past b. */
+ * The budget. A run spends at most its budget, and takes time in proportion to what it spends (docs/PERFORMANCE.md), after judging the table,
+ * which takes time in proportion to the table. With a budget below A+F+N+B+P, which is Size, nothing is written. In the plain reading
+ * 5A+F+N+3B+3P finishes, hence five times Size, and FLY_MAX_SPENT for every table. In the well-founded reading each search costs Size, and is
+ * made only if that is left of the budget; else the run stops, also where every line is worked. There five times Size may not finish;
+ * 5A+F+N+3B+3P + (6A+2) * Size does, and FLY_MAX_SEARCH_SPENT for every table. No run spends more than that of its reading. Two runs of a table
+ * in one reading under different budgets: the lines of the smaller one are the first lines of the larger one, in the same order. But a run does
+ * not go on where an earlier one stopped: each call judges the table and works from the start, so a run under a growing budget costs the sum of
+ * its calls. Raise the budget by doubling it (examples/console/loop.c), not by a small step; and where one call has time for b units, no number
+ * of calls gets past b. */
 #ifndef FLYRULES_H
 #define FLYRULES_H
 
@@ -72,10 +83,11 @@ extern "C" {
 #define FLY_MAX_BYTES 32778
 #define FLY_MAX_TWO 32779
 
-#define FLY_SCRATCH 32768   /* words of scratch */
-#define FLY_LOG 2048        /* words of log, 4 for each of FLY_MAX_ATOMS */
-#define FLY_SHEET 5041      /* bytes of the longest sheet */
-#define FLY_MAX_SPENT 23040 /* the most that a run of any table can spend */
+#define FLY_SCRATCH 32768             /* words of scratch */
+#define FLY_LOG 2048                  /* words of log, 4 for each of FLY_MAX_ATOMS */
+#define FLY_SHEET 5041                /* bytes of the longest sheet */
+#define FLY_MAX_SPENT 23040           /* the most that a plain run of any table can spend */
+#define FLY_MAX_SEARCH_SPENT 26779136 /* no run of any table in the well-founded reading can spend more */
 
 /* bytes of stack, measured and rounded up (tests/console/promises.c) */
 #define FLY_RUN_STACK 8192
@@ -97,6 +109,12 @@ extern "C" {
 enum fly_edition {
     FLY_OLD = 1, /* the old layout */
     FLY_TWO = 2  /* a byte 2, and then the old layout, in which a rule's left word is kind + 4 * origin */
+};
+
+/* the readings of a table by a run */
+enum fly_reading {
+    FLY_PLAIN = 0,       /* what follows from the table line by line */
+    FLY_WELL_FOUNDED = 1 /* and −Δ and −∂ of what rests on nothing but loops of rules, with what follows from them */
 };
 
 /* whose rule it is, in edition two: a left word divided by 4 */
@@ -125,7 +143,8 @@ enum fly_stand {
  * before that of an atom, and fly_join has an order of its own, which stands there. What is said of bytes is of those after the first in edition
  * two. */
 enum fly_refusal {
-    FLY_TRUNCATED = 1,     /* the table has fewer than 10 bytes; edition two: no first byte, or another than 2; a number of no edition */
+    FLY_TRUNCATED = 1,     /* the table has fewer than 10 bytes; edition two: no first byte, or another than 2; a number of no edition, or of
+                            * no reading */
     FLY_TOO_LARGE = 2,     /* one of its five sizes is above its limit; fly_join: one of the joined table's is */
     FLY_WRONG_LENGTH = 3,  /* it does not have 10 + 4(F+N+B+P) bytes */
     FLY_BAD_KIND = 4,      /* a fact's left word is not 0, or a rule's is above 2; edition two: its kind is above 2, or its origin above 3 */
@@ -141,16 +160,18 @@ enum fly_refusal {
 };
 
 /* refused: 0, or the number of the refusal; then the other four are 0, and log and scratch are as they were. Else finished is 1 if
- * every line was worked, 0 if the budget stopped the run; lines were written to the log, worked of them were worked, and spent is
- * what that cost. */
+ * every line was worked and, in the well-founded reading, both searches were then made and added nothing; 0 if the budget stopped the run. Where
+ * it stopped before a search, every line was worked, so that worked = lines does not say that it finished. lines were written to the log, worked
+ * of them were worked, and spent is what that and the searches cost. */
 typedef struct {
     uint32_t refused, finished, lines, worked, spent;
 } fly_answer;
 
-/* Runs a table under a budget. After an accepted call the log's first `lines` words are the lines, the words past them are as they
- * were, the scratch's first FLY_SCRATCH words are 0 and the words past them are as they were. */
-fly_answer fly_run(const uint8_t *table, size_t table_len, uint32_t edition, uint32_t budget, uint16_t *log, size_t log_len,
-                   uint16_t *scratch, size_t scratch_len);
+/* Runs a table in a reading, one of fly_reading, under a budget. A number of no edition, or of no reading, is refused with FLY_TRUNCATED before
+ * the table is looked at. After an accepted call the log's first `lines` words are the lines, the words past them are as they were, the
+ * scratch's first FLY_SCRATCH words are 0 and the words past them are as they were. */
+fly_answer fly_run(const uint8_t *table, size_t table_len, uint32_t edition, uint32_t reading, uint32_t budget, uint16_t *log,
+                   size_t log_len, uint16_t *scratch, size_t scratch_len);
 
 /* Prints the sheet of a table in the old layout, as README says: returns its number of bytes; the rest of out is 0. A table that is refused has a sheet
  * too: the line `refused` and its number. Log and scratch of its run are on the stack. */
@@ -180,7 +201,7 @@ fly_written fly_convert(const uint8_t *table, size_t table_len, uint32_t edition
  * both, each once; the house's rules under their own numbers and the tour's after them, so that rule r of the tour is rule N + r where the
  * house has N; antecedents, kinds and origins as they are; the pairs of both; and one pair more, house rule over tour rule, for each such two
  * with complementary heads, whatever their kinds. The new table is never refused by 1 to 7 in its edition: its pairs, too, do not lead from a
- * rule back to itself. In a run of it that finishes, a strict or defeasible rule of the house whose antecedents all have +∂ gives its head
+ * rule back to itself. In a plain run of it that finishes, a strict or defeasible rule of the house whose antecedents all have +∂ gives its head
  * +∂, if no rule of the house, defeaters included, has the head's complement as head, and that complement has −Δ.
  * Of these the first that applies is given, and not the lowest number: what the house's table is refused by, as by a run; what the tour's is
  * refused by; FLY_ATOMS_DIFFER; FLY_TOO_LARGE for the joined table; FLY_SHORT_OUTPUT. Bytes of the output past the new table are as they were.
@@ -197,9 +218,9 @@ uint32_t fly_parts(const uint8_t *table, size_t table_len, uint32_t edition, uin
 /* Writes the table of the part to which an atom belongs, in the same edition; each atom of a part gives the same table. It has the same A, and
  * atoms keep their numbers; the facts of the part's atoms; the rules whose heads are of the part, in their order and numbered anew from 0, with
  * their antecedents, kinds and origins; and the pairs of two such rules. It is never longer than the whole table, and never refused by 1 to 7 in
- * its edition. In a run of it that finishes, each literal of the part's atoms has just the tags that it has in a run of the whole table that
- * finishes; nothing is said of the order of the lines, nor of what is spent. The other atoms have neither facts nor rules there, so that such a
- * run gives both their literals −Δ and −∂, which says nothing of the whole table.
+ * its edition. In a run of it that finishes, each literal of the part's atoms has just the tags that it has in a run of the whole table, in the
+ * same reading, that finishes; nothing is said of the order of the lines, nor of what is spent. The other atoms have neither facts nor rules
+ * there, so that such a run gives both their literals −Δ and −∂, which says nothing of the whole table.
  * A table that is refused is refused as by a run; then an atom that is not below A with FLY_OUT_OF_RANGE; then an output that is shorter than the
  * new table with FLY_SHORT_OUTPUT. Bytes of the output past the new table are as they were. A call takes time nearly in proportion to the whole
  * table, however small the part. */

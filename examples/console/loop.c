@@ -74,7 +74,7 @@ int main(int count, char **words) {
     uint32_t shown = 0;
     fly_answer a = {0, 0, 0, 0, 0};
     for (uint32_t budget = size_of_table(); !a.refused && !a.finished; budget *= 2) {
-        a = fly_run(table, n, edition, budget, lines, FLY_LOG, scratch, FLY_SCRATCH);
+        a = fly_run(table, n, edition, FLY_PLAIN, budget, lines, FLY_LOG, scratch, FLY_SCRATCH);
         if (a.refused) break;
         printf("budget %u: %u lines, %u worked, %u spent%s\n", budget, a.lines, a.worked, a.spent, a.finished ? ", finished" : "");
         show(shown, a.lines);

@@ -1,6 +1,6 @@
 #!/usr/bin/env python3
-"""Writes the cases made by hand into crates/cases/data: made.bin, told.bin, bodies.bin, readers.bin, longest.bin, conversions.bin, lists.bin
-and parted.bin. With --check it writes nothing, and fails unless the files are what it would write.
+"""Writes the cases made by hand into crates/cases/data: made.bin, told.bin, readings.bin, bodies.bin, readers.bin, longest.bin, conversions.bin,
+lists.bin and parted.bin. With --check it writes nothing, and fails unless the files are what it would write.
 
 A table is written as words, where | parts the sizes A F N B P, the left array and the right array. Each array has the facts,
 then the rules, the entries and the pairs. A number with ; after it is a byte, as the 2 before a table of edition two.
@@ -19,6 +19,9 @@ LIST = 600
 OLD, TWO = 1, 2
 MARK = '2; '
 BEFORE = {OLD: '', TWO: MARK}
+
+# The readings.
+PLAIN, WELL_FOUNDED = 0, 1
 
 CASE_1 = '2 1 2 1 1 | 0 1 1 0 0 | 0 2 3 0 1'
 EMPTY = '0 0 0 0 0'
@@ -227,6 +230,75 @@ TOLD = [
     ('an origin, and facts that fall', MARK + '1 2 1 0 0 | 0 0 13 | 1 0 0', TWO, refused(6)),
     ('an origin, facts that fall, and a circle', MARK + '1 2 1 0 1 | 0 0 13 0 | 1 0 0 0', TWO, refused(6)),
     ('an origin, and a circle', MARK + '1 0 1 0 1 | 13 0 | 0 0', TWO, refused(7)),
+]
+
+# Document 004's example of the well-founded reading, with a, b, c, d as the atoms 0 to 3. Its size is 14. Of the lines at the end 3 is −∂ of a,
+# and 23 is −∂ of ¬c.
+LOOP_OF_TWO = '4 0 6 4 0 | 1 1 1 1 1 1  0 1 2 3 | 0 0 0 5 6 7  2 5 6 0'
+LOOP_OF_TWO_INITIAL = '1 5 9 13 17 21 25 29'
+LOOP_OF_TWO_PLAIN = LOOP_OF_TWO_INITIAL + ' 7 11 15 19 27 31'
+LOOP_OF_TWO_LOG = LOOP_OF_TWO_PLAIN + ' 3 23'
+LOOP_OF_TWO_SEARCHED = 0, 0, 14, 14, 44, LOOP_OF_TWO_PLAIN
+LOOP_OF_TWO_FOUND = 0, 0, 16, 14, 58, LOOP_OF_TWO_LOG
+LOOP_OF_TWO_FINISHED = 0, 1, 16, 16, 90, LOOP_OF_TWO_LOG
+
+STRICT_LOOP = '1 0 1 1 0 | 0 0 | 0 0'
+ATOMS_512_LOG = ' '.join(str(4 * q + tag) for tag in (1, 3) for q in range(1024))
+
+# What it is, the table, the reading, the budgets, how many words of log are lent, and what the run gives with each of the budgets in both
+# editions. A seventh word says how many words of scratch are lent.
+READINGS = [
+    ('document 004, plain: −∂ neither of a nor of ¬c', LOOP_OF_TWO, PLAIN, [30, 44, 70, 90], LOG, (0, 1, 14, 14, 30, LOOP_OF_TWO_PLAIN)),
+    ('a budget below the size', LOOP_OF_TWO, WELL_FOUNDED, [0, 13], LOG, STOPPED),
+    ('the opening alone', LOOP_OF_TWO, WELL_FOUNDED, [14], LOG, (0, 0, 8, 0, 14, LOOP_OF_TWO_INITIAL)),
+    ('a line is left', LOOP_OF_TWO, WELL_FOUNDED, [29], LOG, (0, 0, 14, 13, 29, LOOP_OF_TWO_PLAIN)),
+    ('all worked, and no search begun', LOOP_OF_TWO, WELL_FOUNDED, range(30, 44), LOG, (0, 0, 14, 14, 30, LOOP_OF_TWO_PLAIN)),
+    ('all worked, and the first search adds nothing', LOOP_OF_TWO, WELL_FOUNDED, range(44, 58), LOG, LOOP_OF_TWO_SEARCHED),
+    ('the second adds both lines', LOOP_OF_TWO, WELL_FOUNDED, [58, 59], LOG, LOOP_OF_TWO_FOUND),
+    ('one of them worked', LOOP_OF_TWO, WELL_FOUNDED, [60, 61], LOG, (0, 0, 16, 15, 60, LOOP_OF_TWO_LOG)),
+    ('both worked: at 70, five times the size, it stops', LOOP_OF_TWO, WELL_FOUNDED, range(62, 76), LOG, (0, 0, 16, 16, 62, LOOP_OF_TWO_LOG)),
+    ('the first search adds nothing again', LOOP_OF_TWO, WELL_FOUNDED, range(76, 90), LOG, (0, 0, 16, 16, 76, LOOP_OF_TWO_LOG)),
+    ('and neither does the second', LOOP_OF_TWO, WELL_FOUNDED, [90, 91, 402, 2 ** 32 - 1], LOG, LOOP_OF_TWO_FINISHED),
+    # Where the size is 0, a search costs nothing.
+    ('no atoms', EMPTY, WELL_FOUNDED, [0, 1], LOG, FINISHED),
+    ('no atoms, and no log', EMPTY, WELL_FOUNDED, [0], 0, FINISHED),
+    # Nothing is found where every literal is decided.
+    ('case 1: one search', CASE_1, WELL_FOUNDED, [24, 30], LOG, (0, 0, 8, 8, 24, '0 5 9 13 2 7 10 15')),
+    ('case 1: both', CASE_1, WELL_FOUNDED, [31, 117], LOG, (0, 1, 8, 8, 31, '0 5 9 13 2 7 10 15')),
+    ('512 atoms: no search', ATOMS_512, WELL_FOUNDED, [2560, 3071], LOG, (0, 0, 2048, 2048, 2560, ATOMS_512_LOG)),
+    ('512 atoms: one', ATOMS_512, WELL_FOUNDED, [3072, 3583], LOG, (0, 0, 2048, 2048, 3072, ATOMS_512_LOG)),
+    ('512 atoms: both', ATOMS_512, WELL_FOUNDED, [3584], LOG, (0, 1, 2048, 2048, 3584, ATOMS_512_LOG)),
+    # A literal that rests on itself has −Δ by the first search where its rule is strict, and then −∂ by the second.
+    ('a strict loop, plain', STRICT_LOOP, PLAIN, [5, 24], LOG, (0, 1, 2, 2, 5, '5 7')),
+    ('a strict loop: no search', STRICT_LOOP, WELL_FOUNDED, [5, 7], LOG, (0, 0, 2, 2, 5, '5 7')),
+    ('a strict loop: −Δ found', STRICT_LOOP, WELL_FOUNDED, [8, 9], LOG, (0, 0, 3, 2, 8, '5 7 1')),
+    ('a strict loop: −Δ worked', STRICT_LOOP, WELL_FOUNDED, [10, 12], LOG, (0, 0, 3, 3, 10, '5 7 1')),
+    ('a strict loop: no second −Δ', STRICT_LOOP, WELL_FOUNDED, [13, 15], LOG, (0, 0, 3, 3, 13, '5 7 1')),
+    ('a strict loop: −∂ found', STRICT_LOOP, WELL_FOUNDED, [16, 17], LOG, (0, 0, 4, 3, 16, '5 7 1 3')),
+    ('a strict loop: −∂ worked', STRICT_LOOP, WELL_FOUNDED, [18, 20], LOG, (0, 0, 4, 4, 18, '5 7 1 3')),
+    ('a strict loop: a search too few', STRICT_LOOP, WELL_FOUNDED, [21, 23], LOG, (0, 0, 4, 4, 21, '5 7 1 3')),
+    ('a strict loop: both made', STRICT_LOOP, WELL_FOUNDED, [24, 36], LOG, (0, 1, 4, 4, 24, '5 7 1 3')),
+    # 9: more lines come in the reading than the log has words.
+    ('14 words for 14 lines', LOOP_OF_TWO, WELL_FOUNDED, [44, 57], 14, LOOP_OF_TWO_SEARCHED),
+    ('13 words for 14 lines', LOOP_OF_TWO, WELL_FOUNDED, [44, 57], 13, refused(9)),
+    ('15 words for 16 lines, of which 14 are worked', LOOP_OF_TWO, WELL_FOUNDED, [58], 15, refused(9)),
+    ('14 words for them', LOOP_OF_TWO, WELL_FOUNDED, [58], 14, refused(9)),
+    ('16 words for them', LOOP_OF_TWO, WELL_FOUNDED, [58], 16, LOOP_OF_TWO_FOUND),
+    ('15 words for 16 lines', LOOP_OF_TWO, WELL_FOUNDED, [62, 90], 15, refused(9)),
+    ('16 words for 16 lines', LOOP_OF_TWO, WELL_FOUNDED, [90], 16, LOOP_OF_TWO_FINISHED),
+    ('14 words for the 14 lines of the plain reading', LOOP_OF_TWO, PLAIN, [90], 14, (0, 1, 14, 14, 30, LOOP_OF_TWO_PLAIN)),
+    ('no log for no line', LOOP_OF_TWO, WELL_FOUNDED, [13], 0, STOPPED),
+    ('no log', LOOP_OF_TWO, WELL_FOUNDED, [14, 90], 0, refused(9)),
+    ('a loop: 3 words for 3 lines', LOOP, WELL_FOUNDED, [9, 11], 3, (0, 0, 3, 3, 9, '1 5 7')),
+    ('a loop: 3 words for 4 lines', LOOP, WELL_FOUNDED, [12, 20], 3, refused(9)),
+    ('a loop: 4 words for 4 lines', LOOP, WELL_FOUNDED, [20], 4, (0, 1, 4, 4, 20, '1 5 7 3')),
+    ('a strict loop: 2 words for 2 lines', STRICT_LOOP, WELL_FOUNDED, [7], 2, (0, 0, 2, 2, 5, '5 7')),
+    ('a strict loop: 2 words for 3 lines', STRICT_LOOP, WELL_FOUNDED, [8], 2, refused(9)),
+    ('a strict loop: 3 words for 3 lines', STRICT_LOOP, WELL_FOUNDED, [8, 9], 3, (0, 0, 3, 2, 8, '5 7 1')),
+    # The lowest number is given.
+    ('a word of scratch too few', LOOP_OF_TWO, WELL_FOUNDED, [90], LOG, refused(8), 32767),
+    ('and the log too short', LOOP_OF_TWO, WELL_FOUNDED, [90], 15, refused(8), 32767),
+    ('a circle, and both too short', CIRCLE, WELL_FOUNDED, [90], 0, refused(7), 32767),
 ]
 
 MIDDLE = '200 0 3 2 0 | 1 1 1 1 1 | 0 0 0 5 300'
@@ -446,6 +518,15 @@ def told():
     return b''.join(field(table) + numbers(edition) + fields for table, edition, fields in told_runs())
 
 
+def readings():
+    rows = [(edition, BEFORE[edition] + table, reading, budget, log, gives, *scratch)
+            for edition in (OLD, TWO) for _, table, reading, budgets, log, gives, *scratch in READINGS for budget in budgets]
+    return b''.join(
+        field(words(table)) + numbers(reading, edition) + run(budget, log, *(scratch or [SCRATCH]), gives)
+        for edition, table, reading, budget, log, gives, *scratch in rows
+    )
+
+
 def bodies():
     rows = [(BEFORE[edition] + table, edition, rule, body) for edition in (OLD, TWO) for _, table, rule, body in BODIES]
     rows += [row for _, *row in TOLD_BODIES]
@@ -544,6 +625,7 @@ def parted():
 FILES = {
     'made.bin': made,
     'told.bin': told,
+    'readings.bin': readings,
     'bodies.bin': bodies,
     'readers.bin': readers,
     'longest.bin': longest,

@@ -14,14 +14,17 @@
 //! the log the lines that the run writes under its budget, and 4A; of the list A; of the output the byte count of the new file. By the lines of a
 //! run no rule may both fire and be out. A table with origins runs like the same without them, in both editions, and a table that is converted
 //! there and back is the table again. A joined table is accepted, and by the log of its finished run the house's rules have what S-7 promises
-//! them. So is a part's table, and finished runs of it and of the whole give the part's atoms the same tags. The first mismatch is printed and
+//! them. So is a part's table, and finished runs of it and of the whole give the part's atoms the same tags. In the well-founded reading the
+//! bound finishes and is not exceeded, every line of the finished plain run is there, and no literal has a tag and its opposite; in either
+//! reading the log of a smaller budget is a beginning of that of a larger one. The first mismatch is printed and
 //! ends the program with status 1: where the table comes from and what differs first (records, words, bytes and lines are counted from 0). What
 //! is printed at the end is how often each verdict stood on a sheet, and how often each answer came, in the old layout and in edition two, among
-//! them lines in a log below 4A words (a short log), and short logs that a larger budget outgrows. Each must have come often enough, unless
+//! them lines in a log below 4A words (a short log), short logs that a larger budget outgrows, and in the well-founded reading how runs stopped,
+//! by how many searches they finished, and whether these added lines. Each must have come often enough, unless
 //! fewer CALLS (of fly_run) than the default are asked for.
 //!
-//! --vectors DIR: base.bin, sheets-S6.bin, short-logs.bin, editions.bin, joins.bin, parts.bin and part-tables.bin there, against both engines,
-//! before the CALLS.
+//! --vectors DIR: base.bin, sheets-S6.bin, short-logs.bin, editions.bin, joins.bin, parts.bin, part-tables.bin and well-founded.bin there, against
+//! both engines, before the CALLS.
 //! --mutant K: the test's own test, of fewer CALLS. A deliberate fault in the slow engine or in what is expected of the buffers, which
 //! must end in a mismatch.
 //! --mutants: the number and the fault of each, a line for each K.
@@ -29,7 +32,8 @@
 mod slow;
 mod tables;
 
-use slow::{mutant, Answer, Join, Listing, Part, Run, Standing, Written, FIRING, OLD, OUT, SCRATCH, TWO, WAITING};
+use slow::{mutant, plain, well_founded, Answer, Join, Listing, Part, Run, Standing, Terms, Written};
+use slow::{FIRING, OLD, OUT, PLAIN, SCRATCH, TWO, WAITING, WELL_FOUNDED};
 use std::fmt::Debug;
 use std::ops::Range;
 use std::sync::atomic::Ordering::Relaxed;
@@ -40,6 +44,7 @@ extern "C" {
         table: *const u8,
         table_len: usize,
         edition: u32,
+        reading: u32,
         budget: u32,
         log: *mut u16,
         log_len: usize,
@@ -63,8 +68,8 @@ extern "C" {
 }
 
 const SEED: u64 = 20_260;
-const CALLS: u64 = 780_000;
-const MUTANT_CALLS: u64 = 9_200; // the mutant that is caught last needs 9,010
+const CALLS: u64 = 1_100_000;
+const MUTANT_CALLS: u64 = 10_300; // the mutant that is caught last needs 10,087
 const SHEET: usize = 5_041;
 const GUARD: usize = 32; // the most words or bytes of a buffer before the lent part, and the least past it
 const LOG_MOST: usize = 4_096; // the longest log and the longest list lent
@@ -74,6 +79,10 @@ const OUT_MOST: usize = 40_000; // the longest output lent
 /// Numbers of no edition, some of them with the lowest bits of one.
 const NO_EDITION: &[u32] =
     &[0, 3, 4, 5, 6, 255, 256, 257, 258, 513, 65_535, 65_536, 65_537, 65_538, (1 << 24) + 2, 1 << 31, (1 << 31) + 1, u32::MAX];
+
+/// Numbers of no reading, likewise.
+const NO_READING: &[u32] =
+    &[2, 3, 4, 5, 255, 256, 257, 512, 513, 65_535, 65_536, 65_537, 1 << 24, (1 << 24) + 1, 1 << 31, (1 << 31) + 1, u32::MAX];
 
 /// The deliberate faults, from 1. `slow::mutant` asks for them by number.
 const MUTANTS: &[&str] = &[
@@ -198,15 +207,59 @@ const MUTANTS: &[&str] = &[
     "the byte past a part's file becomes 0",
     "a refused list writes the first word",
     "a refused part writes the first byte",
+    "the ∂ search comes before the Δ search",
+    "a search is not charged",
+    "members of the second set need not have −Δ",
+    "finished after the Δ search alone",
+    "a search is begun though Size does not fit",
+    "a set has one literal beside those that have the tag",
+    "finished as soon as every line is worked",
+    "the Δ search is not made again",
+    "the plain run in the well-founded reading",
+    "for an attacker's sake a supporter is out by an antecedent in the set",
+    "the lines of a search go by falling literal",
+    "9 by the lines of the plain run",
+    "a fact can be in the first set",
+    "defeasible rules count in the first set",
+    "defeaters count in the second set",
+    "one supporter is asked in the second set",
+    "a search is begun only if more than Size is left",
+    "the ∂ search follows a Δ search that adds lines",
+    "the ∂ search is not charged",
+    "an unknown reading is the plain one",
+    "an unknown reading is the well-founded one",
+    "the reading cut to 8 bits",
+    "the reading cut to 16 bits",
+    "an unknown reading is refused after the table",
+    "the sheet is of the well-founded reading",
+    "scratch is left as it was in the well-founded reading",
+    "an unknown reading clears the scratch",
 ];
+
+/// How often each answer of a run came.
+#[derive(Default)]
+struct Runs {
+    refused: [u64; 10],
+    stopped: u64,
+    finished: u64,
+    short: u64, // accepted, with lines in a log below 4A words
+}
+
+/// How often runs in the well-founded reading came to this.
+#[derive(Default)]
+struct Searches {
+    before: u64,        // stopped with every line worked, before a Δ search
+    between: u64,       // stopped with every line worked, before a ∂ search
+    delta: u64,         // a Δ search added lines
+    partial: u64,       // a ∂ search added lines
+    finished: [u64; 7], // finished by so many searches, or by more if it is the last
+}
 
 /// How often each answer came for tables of one edition.
 #[derive(Default)]
 struct Counts {
-    refused: [u64; 10],
-    stopped: u64,
-    finished: u64,
-    short: u64,          // accepted, with lines in a log below 4A words
+    runs: [Runs; 3], // in the plain reading, in the well-founded one, in none
+    searches: Searches,
     stood: [u64; 3],     // by how the rule stands, if it has antecedents
     bodiless: u64,       // rules that have none
     not_stood: [u64; 8], // by the number of the table's refusal
@@ -272,10 +325,12 @@ impl Counts {
             answers.iter().map(|&(what, came)| counted(&format!("{edition}{what}"), came, least)).collect()
         };
         let [firing, out, waiting] = self.stood;
+        let [plain, _, _] = &self.runs;
         [
-            refusals("", &[1, 2, 3, 4, 5, 6, 7, 8], &self.refused),
-            answers(&[("refused 9:", self.refused[9])], 10_000),
-            answers(&[("stopped", self.stopped), ("finished", self.finished), ("short logs accepted", self.short)], least),
+            refusals("", &[1, 2, 3, 4, 5, 6, 7, 8], &plain.refused),
+            answers(&[("refused 9:", plain.refused[9])], 10_000),
+            answers(&[("stopped", plain.stopped), ("finished", plain.finished), ("short logs accepted", plain.short)], least),
+            self.list_searches(edition, least / 2),
             refusals("standings ", &[1, 2, 3, 4, 5, 6, 7], &self.not_stood),
             answers(&[("rule numbers refused", self.strange)], 10_000),
             answers(&[("firing", firing), ("out", out), ("waiting", waiting)], least),
@@ -290,6 +345,57 @@ impl Counts {
             self.parts.list(edition),
         ]
         .concat()
+    }
+
+    /// The answers of runs in the well-founded reading, and of those in none.
+    fn list_searches(&self, edition: &str, least: u64) -> Vec<Count> {
+        let ([_, runs, none], searches) = (&self.runs, &self.searches);
+        let mut list: Vec<(String, u64, u64)> =
+            (1..9).map(|k| (format!("well-founded, refused {k}:"), runs.refused[k], 300)).collect();
+        let more = [
+            ("well-founded, refused 9:", runs.refused[9], least),
+            ("well-founded, stopped", runs.stopped, least),
+            ("well-founded, stopped with every line worked, before a Δ search", searches.before, least / 5),
+            ("well-founded, stopped with every line worked, before a ∂ search", searches.between, least / 5),
+            ("well-founded, finished", runs.finished, least),
+            ("well-founded, short logs accepted", runs.short, least),
+            ("well-founded, runs in which a Δ search added lines", searches.delta, least / 5),
+            ("well-founded, runs in which a ∂ search added lines", searches.partial, least),
+            ("no reading, refused 1:", none.refused[1], 1_000),
+        ];
+        list.extend(more.map(|(what, came, least)| (what.to_string(), came, least)));
+        for k in 2..7 {
+            let or_more = if k == 6 { " or more" } else { "" };
+            list.push((format!("well-founded, finished by {k}{or_more} searches"), searches.finished[k], least / 10));
+        }
+        list.into_iter().map(|(what, came, least)| counted(&format!("{edition}{what}"), came, least)).collect()
+    }
+}
+
+impl Runs {
+    fn count(&mut self, answer: &Answer, short: bool) {
+        match (answer.refused, answer.finished) {
+            (0, 0) => self.stopped += 1,
+            (0, _) => self.finished += 1,
+            (number, _) => self.refused[number as usize] += 1,
+        }
+        self.short += (answer.lines != 0 && short) as u64;
+    }
+}
+
+impl Searches {
+    /// A run that is accepted.
+    fn count(&mut self, run: &Run) {
+        let (answer, made) = (&run.answer, &run.searches);
+        let (opened, quiet) = (answer.spent != 0, answer.worked == answer.lines && answer.finished == 0);
+        let last = made.last().filter(|s| s.added == 0);
+        self.between += (opened && quiet && last.is_some_and(|s| !s.partial)) as u64;
+        self.before += (opened && quiet && last.is_none()) as u64;
+        self.delta += made.iter().any(|s| !s.partial && s.added != 0) as u64;
+        self.partial += made.iter().any(|s| s.partial && s.added != 0) as u64;
+        if answer.finished != 0 {
+            self.finished[made.len().min(6)] += 1;
+        }
     }
 }
 
@@ -431,6 +537,9 @@ struct Bench {
     parts: u64,
     accepted: u64,     // tables of parts that are accepted
     tagged_alike: u64, // parts whose atoms have the tags that the whole gives them
+    founded: u64,      // tables of which the well-founded reading keeps what S-9 promises
+    concluded: u64,    // those of them that conclude more in it than in the plain reading
+    beyond: u64,       // those of them that five times Size does not finish in it
 }
 
 /// The k-th of the five sizes, or 0 if the table ends before it.
@@ -555,6 +664,9 @@ impl Bench {
             parts: 0,
             accepted: 0,
             tagged_alike: 0,
+            founded: 0,
+            concluded: 0,
+            beyond: 0,
         }
     }
 
@@ -617,7 +729,7 @@ impl Bench {
 
     /// "Log words past the lines are untouched; on every accepted call the first 32,768 scratch words are 0 and the rest untouched."
     /// A refusal "writes nothing"; with 9, "log and scratch untouched". `short`: the log is below 4A words.
-    fn expect(&mut self, answer: &Answer, lines: &[u16], short: bool, log: &Range<usize>, scratch: &Range<usize>) {
+    fn expect(&mut self, reading: u32, answer: &Answer, lines: &[u16], short: bool, log: &Range<usize>, scratch: &Range<usize>) {
         let (log, scratch) = (&mut self.log_expected[log.clone()], &mut self.scratch_expected[scratch.clone()]);
         let n = lines.len().min(log.len());
         if answer.refused != 0 {
@@ -627,11 +739,14 @@ impl Bench {
             if mutant(25) && answer.refused == 9 {
                 log[..n].copy_from_slice(&lines[..n]);
             }
+            if mutant(148) && reading > WELL_FOUNDED && scratch.len() >= SCRATCH {
+                scratch[..SCRATCH].fill(0);
+            }
             return;
         }
         let n = if mutant(27) && short { less_one(n) } else { n };
         log[..n].copy_from_slice(&lines[..n]);
-        if !(mutant(16) && answer.spent == 0 || mutant(26) && short) {
+        if !(mutant(16) && answer.spent == 0 || mutant(26) && short || mutant(147) && reading == WELL_FOUNDED) {
             scratch[..SCRATCH].fill(0);
         }
         if mutant(17) && n < log.len() {
@@ -642,42 +757,41 @@ impl Bench {
         }
     }
 
-    fn count(&mut self, t: &Table, answer: &Answer, short: bool) {
+    fn count(&mut self, t: &Table, reading: u32, answer: &Answer, run: &Run, short: bool) {
         let counts = self.counts(t);
-        match (answer.refused, answer.finished) {
-            (0, 0) => counts.stopped += 1,
-            (0, _) => counts.finished += 1,
-            (number, _) => counts.refused[number as usize] += 1,
+        counts.runs[reading.min(2) as usize].count(answer, short);
+        if reading == WELL_FOUNDED && answer.refused == 0 {
+            counts.searches.count(run);
         }
-        counts.short += (answer.lines != 0 && short) as u64;
     }
 
     /// One call of fly_run and all that is compared for it; the run is the slow engine's.
-    fn call(&mut self, t: &Table, budget: u32, run: &Run, log_len: usize, scratch_len: usize) -> Answer {
+    fn call(&mut self, t: &Table, terms: Terms, run: &Run, log_len: usize, scratch_len: usize) -> Answer {
         if self.calls == self.last {
             self.end();
         }
-        let (expected, short) = (slow::call(&t.bytes, t.edition, run, log_len, scratch_len), log_len < full_log(t));
+        let Terms { reading, budget } = terms;
+        let (expected, short) = (slow::call(&t.bytes, t.edition, terms, run, log_len, scratch_len), log_len < full_log(t));
         let at = self.lend_table(&t.bytes);
         let (log_lent, scratch_lent) = self.lend_buffers(log_len, scratch_len);
         let (log, scratch) = (self.log[log_lent.clone()].as_mut_ptr(), self.scratch[scratch_lent.clone()].as_mut_ptr());
         let lent = &self.table[at..at + t.bytes.len()];
-        let answer = unsafe { fly_run(lent.as_ptr(), lent.len(), t.edition, budget, log, log_len, scratch, scratch_len) };
+        let answer = unsafe { fly_run(lent.as_ptr(), lent.len(), t.edition, reading, budget, log, log_len, scratch, scratch_len) };
         self.calls += 1;
         self.lines.clear();
         self.lines.extend_from_slice(&self.log[log_lent.clone()][..(answer.lines as usize).min(log_len)]);
-        self.expect(&expected, &run.1, short, &log_lent, &scratch_lent);
+        self.expect(reading, &expected, &run.lines, short, &log_lent, &scratch_lent);
         let difference = answers_differ(&answer, &expected)
             .or_else(|| elements_differ("log word", &self.log, &self.log_expected, log_lent.start))
             .or_else(|| elements_differ("scratch word", &self.scratch, &self.scratch_expected, scratch_lent.start))
             .or_else(|| self.table_altered(at, &t.bytes));
         if let Some(what) = difference {
             let lengths = format!("log_len {log_len} scratch_len {scratch_len}");
-            let call = format!("call {} edition {} budget {budget} {lengths}", self.calls, t.edition);
-            let logs = format!("archive log {:?}\nslow    log {:?}", self.lines, run.1);
+            let call = format!("call {} edition {} reading {reading} budget {budget} {lengths}", self.calls, t.edition);
+            let logs = format!("archive log {:?}\nslow    log {:?}", self.lines, run.lines);
             self.mismatch(&what, &t.bytes, format!("{call}\narchive {answer:?}\nslow    {expected:?}\n{logs}"));
         }
-        self.count(t, &expected, short);
+        self.count(t, reading, &expected, run, short);
         answer
     }
 
@@ -862,7 +976,7 @@ impl Bench {
     /// "The result is always free of circles", and legal otherwise: it runs to its finish. By these lines "a strict or defeasible house rule
     /// that fires gives its head +∂ wherever no house rule attacks it and the head's complement has −Δ." The first n rules are the house's.
     fn house_prevails(&mut self, joined: &Table, n: usize) {
-        let answer = if rules(joined) <= 200 { self.enough(joined, u32::MAX) } else { self.alone(joined) };
+        let answer = if rules(joined) <= 200 { self.enough(joined, plain(u32::MAX)) } else { self.alone(joined, PLAIN) };
         if answer.refused != 0 || answer.finished != 1 {
             self.mismatch("a joined table does not run to its finish", &joined.bytes, format!("archive {answer:?}"));
         }
@@ -876,11 +990,12 @@ impl Bench {
     }
 
     /// A run of the archive alone to its finish, of a table that the slow engine takes long for.
-    fn alone(&mut self, t: &Table) -> Answer {
+    fn alone(&mut self, t: &Table, reading: u32) -> Answer {
         let (log, scratch) = self.lend_buffers(LOG_MOST, SCRATCH);
         let (log_lent, scratch) = (self.log[log.clone()].as_mut_ptr(), self.scratch[scratch].as_mut_ptr());
-        let table = &t.bytes;
-        let answer = unsafe { fly_run(table.as_ptr(), table.len(), t.edition, u32::MAX, log_lent, LOG_MOST, scratch, SCRATCH) };
+        let (table, most) = (&t.bytes, u32::MAX);
+        let answer =
+            unsafe { fly_run(table.as_ptr(), table.len(), t.edition, reading, most, log_lent, LOG_MOST, scratch, SCRATCH) };
         self.lines = self.log[log][..(answer.lines as usize).min(LOG_MOST)].to_vec();
         answer
     }
@@ -964,23 +1079,24 @@ impl Bench {
     /// The archive accepts a part's table: without scratch a table is refused by 8 once it is judged, and by nothing lower.
     fn accepted(&mut self, t: &Table) {
         let (log, scratch) = (self.log.as_mut_ptr(), self.scratch.as_mut_ptr());
-        let answer = unsafe { fly_run(t.bytes.as_ptr(), t.bytes.len(), t.edition, 0, log, 0, scratch, 0) };
+        let answer = unsafe { fly_run(t.bytes.as_ptr(), t.bytes.len(), t.edition, PLAIN, 0, log, 0, scratch, 0) };
         if answer.refused != 8 {
             self.mismatch("a part's table is not accepted", &t.bytes, format!("archive {answer:?}"));
         }
         self.accepted += 1;
     }
 
-    /// "gives that part's atoms the same tags as the whole, given budgets that finish both".
+    /// "gives that part's atoms the same tags as the whole, given budgets that finish both", in either reading.
     fn tagged_alike(&mut self, whole: &Table, of_part: &Table, part: &Part, atom: usize) {
-        self.alone(whole);
+        let reading = self.rng.pick(&[PLAIN, WELL_FOUNDED]);
+        self.alone(whole, reading);
         let lines = self.lines.clone();
-        let answer = self.alone(of_part);
+        let answer = self.alone(of_part, reading);
         if answer.refused != 0 || answer.finished != 1 {
             self.mismatch("a part's table does not run to its finish", &of_part.bytes, format!("archive {answer:?}"));
         }
         if let Some(a) = slow::tagged_otherwise(&part.words, atom, &self.lines, &lines) {
-            let logs = format!("whole {}\nits log {lines:?}\nthe part's {:?}", hex(&whole.bytes), self.lines);
+            let logs = format!("reading {reading} whole {}\nits log {lines:?}\nthe part's {:?}", hex(&whole.bytes), self.lines);
             self.mismatch(&format!("atom {a} has other tags in its part"), &of_part.bytes, logs);
         }
         self.tagged_alike += 1;
@@ -1108,16 +1224,16 @@ impl Bench {
     }
 
     /// A call with random lengths.
-    fn any(&mut self, t: &Table, budget: u32) -> Answer {
-        let run = slow::run(&t.bytes, t.edition, budget);
-        let (log_len, scratch_len) = (self.log_len(t, &run.0), self.scratch_len(false));
-        self.call(t, budget, &run, log_len, scratch_len)
+    fn any(&mut self, t: &Table, terms: Terms) -> Answer {
+        let run = slow::run(&t.bytes, t.edition, terms);
+        let (log_len, scratch_len) = (self.log_len(t, &run.answer), self.scratch_len(false));
+        self.call(t, terms, &run, log_len, scratch_len)
     }
 
     /// A call whose buffers suffice.
-    fn enough(&mut self, t: &Table, budget: u32) -> Answer {
+    fn enough(&mut self, t: &Table, terms: Terms) -> Answer {
         let (log_len, scratch_len) = (self.full_len(t), self.scratch_len(true));
-        self.call(t, budget, &slow::run(&t.bytes, t.edition, budget), log_len, scratch_len)
+        self.call(t, terms, &slow::run(&t.bytes, t.edition, terms), log_len, scratch_len)
     }
 
     /// A legal table.
@@ -1127,13 +1243,22 @@ impl Bench {
         t
     }
 
-    /// Random and extreme budgets for a table that may be illegal.
-    fn budget(&mut self, t: &Table) -> u32 {
+    /// The plain reading and a budget, random or extreme, for a table that may be illegal.
+    fn plain(&mut self, t: &Table) -> Terms {
+        plain(self.budget(t, PLAIN))
+    }
+
+    /// The well-founded reading, likewise.
+    fn well_founded(&mut self, t: &Table) -> Terms {
+        well_founded(self.budget(t, WELL_FOUNDED))
+    }
+
+    fn budget(&mut self, t: &Table, reading: u32) -> u32 {
         let any = self.rng.next() as u32;
         if slow::judge(&t.bytes, t.edition) != 0 {
             return self.rng.pick(&[0, 1, 50, any, u32::MAX]);
         }
-        let (bound, size) = slow::bound_and_size(&t.bytes, t.edition);
+        let (bound, size) = slow::bound_and_size(&t.bytes, t.edition, reading);
         let between = size + self.rng.below((bound - size) as usize + 1) as u32;
         let below = self.rng.below(size as usize + 1) as u32;
         let choice = [0, u32::MAX, any, size, size.saturating_sub(1), bound, bound.saturating_sub(1), bound + 1, below];
@@ -1146,19 +1271,20 @@ impl Bench {
 
     /// One length of log under rising budgets, until it is too short and from then on. Beside each call another whose log is enough;
     /// each of these logs is a beginning of the next, and some rule stands by it.
-    fn rising(&mut self, t: &Table, log_len: usize, budgets: impl IntoIterator<Item = u32>) {
+    fn rising(&mut self, t: &Table, reading: u32, log_len: usize, budgets: impl IntoIterator<Item = u32>) {
         let mut before: Vec<u16> = vec![];
         let (mut served, mut outgrown) = (false, false);
         for budget in budgets {
-            let run = slow::run(&t.bytes, t.edition, budget);
+            let terms = Terms { reading, budget };
+            let run = slow::run(&t.bytes, t.edition, terms);
             let scratch_len = self.scratch_len(true);
-            let answer = self.call(t, budget, &run, log_len, scratch_len);
+            let answer = self.call(t, terms, &run, log_len, scratch_len);
             served |= answer.lines != 0;
             outgrown |= served && answer.refused == 9;
             let (log_len, scratch_len) = (self.full_len(t), self.scratch_len(true));
-            self.call(t, budget, &run, log_len, scratch_len);
+            self.call(t, terms, &run, log_len, scratch_len);
             if !self.lines.starts_with(&before) {
-                let logs = format!("budget {budget}: {before:?} then {:?}", self.lines);
+                let logs = format!("reading {reading} budget {budget}: {before:?} then {:?}", self.lines);
                 self.mismatch("a log is no beginning of the next", &t.bytes, logs);
             }
             before.clone_from(&self.lines);
@@ -1171,56 +1297,115 @@ impl Bench {
 
     /// All budgets from 0 to past the bound, in a log that just holds the lines of one of them, or lacks a word for that.
     fn sweep(&mut self, t: &Table) {
-        let (bound, size) = slow::bound_and_size(&t.bytes, t.edition);
+        let (bound, size) = slow::bound_and_size(&t.bytes, t.edition, PLAIN);
         let held = self.rng.within(size as usize, bound as usize) as u32;
-        let lines = slow::run(&t.bytes, t.edition, held).1.len();
+        let lines = slow::run(&t.bytes, t.edition, plain(held)).lines.len();
         let log_len = self.rng.pick(&[lines, less_one(lines)]);
-        self.rising(t, log_len, 0..=bound + 2);
+        self.rising(t, PLAIN, log_len, 0..=bound + 2);
+    }
+
+    /// A table in the well-founded reading, under budgets at which something changes and some between; or, if it is asked for, under all up to
+    /// what the finish spends. The log just holds the lines of one of them, or lacks a word for that.
+    fn searched(&mut self, t: &Table, all: bool) {
+        let whole = slow::run(&t.bytes, t.edition, well_founded(u32::MAX));
+        let spent = whole.answer.spent;
+        let mut budgets = self.budgets_of_searches(t, &whole);
+        if all {
+            budgets.extend(0..=spent + 2);
+        }
+        budgets.sort();
+        budgets.dedup();
+        let held = self.rng.pick(&budgets).min(spent);
+        let lines = slow::run(&t.bytes, t.edition, well_founded(held)).lines.len();
+        let log_len = self.rng.pick(&[lines, lines, less_one(lines)]);
+        self.rising(t, WELL_FOUNDED, log_len, budgets);
+        self.founded(t);
+    }
+
+    /// Budgets that just pay for a search or just do not, of some searches; that end before one; and others.
+    fn budgets_of_searches(&mut self, t: &Table, whole: &Run) -> Vec<u32> {
+        let ((bound, size), spent) = (slow::bound_and_size(&t.bytes, t.edition, WELL_FOUNDED), whole.answer.spent);
+        let mut budgets = vec![0, less_one(size as usize) as u32, size, spent.saturating_sub(1), spent, 5 * size, bound, u32::MAX];
+        let n = whole.searches.len();
+        let some = self.rng.below(n);
+        for i in (0..n).filter(|&i| i < 2 || i + 3 > n || i == some) {
+            let before = whole.searches[i].before;
+            budgets.extend([before.saturating_sub(1), before, (before + size).saturating_sub(1), before + size]);
+        }
+        for _ in 0..3 {
+            budgets.push(self.rng.within(size as usize, spent as usize) as u32);
+        }
+        budgets
+    }
+
+    /// What S-9 promises of every table. "Spent is at most 5A+F+N+3B+3P + (6A+2) × Size; that budget finishes here, while five times Size
+    /// need not." "Every plain conclusion remains, and no literal has a tag and its opposite."
+    fn founded(&mut self, t: &Table) {
+        let (bound, size) = slow::bound_and_size(&t.bytes, t.edition, WELL_FOUNDED);
+        self.enough(t, plain(u32::MAX));
+        let of_plain = self.lines.clone();
+        let five = self.enough(t, well_founded(5 * size));
+        let answer = self.enough(t, well_founded(bound));
+        let a = atoms(t);
+        let broken = match () {
+            _ if answer.finished != 1 => Some("the bound does not finish".to_string()),
+            _ if answer.spent > bound => Some("more is spent than the bound".to_string()),
+            _ => slow::lacking(a, &self.lines, &of_plain)
+                .map(|l| format!("line {l} of the plain reading is missing"))
+                .or_else(|| slow::with_opposites(a, &self.lines).map(|q| format!("literal {q} has a tag and its opposite"))),
+        };
+        if let Some(what) = broken {
+            let logs = format!("bound {bound}\narchive {answer:?}\narchive log {:?}\nplain log {of_plain:?}", self.lines);
+            self.mismatch(&format!("well-founded reading: {what}"), &t.bytes, logs);
+        }
+        self.founded += 1;
+        self.concluded += (self.lines.len() > of_plain.len()) as u64;
+        self.beyond += (five.finished == 0) as u64;
     }
 
     /// Every lent length around its limit, in all combinations.
-    fn lengths(&mut self, t: &Table, budget: u32) {
-        let run = slow::run(&t.bytes, t.edition, budget);
-        let (lines, worked, full) = (run.0.lines as usize, run.0.worked as usize, full_log(t));
+    fn lengths(&mut self, t: &Table, terms: Terms) {
+        let run = slow::run(&t.bytes, t.edition, terms);
+        let (lines, worked, full) = (run.answer.lines as usize, run.answer.worked as usize, full_log(t));
         for log_len in [0, 1, worked, less_one(lines), lines, lines + 1, less_one(full), full, full + 1, full + 40, LOG_MOST] {
             for scratch_len in [0, 1, SCRATCH - 1, SCRATCH, SCRATCH + 1, SCRATCH + 40, SCRATCH_MOST] {
-                self.call(t, budget, &run, log_len, scratch_len);
+                self.call(t, terms, &run, log_len, scratch_len);
             }
         }
     }
 
     /// A large legal table under no budget, the budget that just fits, one less, and some between.
     fn great(&mut self, t: &Table, between: usize) {
-        let all = slow::run(&t.bytes, t.edition, u32::MAX);
-        let (lines, spent) = (all.0.lines as usize, all.0.spent);
-        for log_len in [self.full_len(t), lines, less_one(lines), self.log_len(t, &all.0)] {
+        let all = slow::run(&t.bytes, t.edition, plain(u32::MAX));
+        let (lines, spent) = (all.answer.lines as usize, all.answer.spent);
+        for log_len in [self.full_len(t), lines, less_one(lines), self.log_len(t, &all.answer)] {
             let scratch_len = self.scratch_len(false);
-            self.call(t, u32::MAX, &all, log_len, scratch_len);
+            self.call(t, plain(u32::MAX), &all, log_len, scratch_len);
         }
-        let (_, size) = slow::bound_and_size(&t.bytes, t.edition);
+        let (_, size) = slow::bound_and_size(&t.bytes, t.edition, PLAIN);
         let mut budgets = vec![spent, spent.saturating_sub(1), size, size.saturating_sub(1)];
         for _ in 0..between {
             budgets.push(self.rng.within(size as usize, spent as usize) as u32);
         }
         budgets.sort();
         let log_len = self.rng.within(lines / 2, lines);
-        self.rising(t, log_len, budgets);
+        self.rising(t, PLAIN, log_len, budgets);
         self.some_stand(t, 0, 6);
         self.there_and_back(t);
         self.sheet(&t.bytes);
     }
 
-    /// "Conclusions and price do not depend on origin": a table with origins, without them, and in the old layout.
+    /// "Conclusions and price do not depend on origin": a table with origins, without them, and in the old layout, in either reading.
     fn alike(&mut self, d: &Draft) {
-        let plain = d.without_origins();
-        let tables = [self.legal(d, TWO), self.legal(&plain, TWO), self.legal(&plain, OLD)];
-        let budget = self.budget(&tables[0]);
-        let run = slow::run(&tables[0].bytes, TWO, budget);
-        let (log_len, scratch_len) = (self.log_len(&tables[0], &run.0), self.scratch_len(false));
+        let bare = d.without_origins();
+        let tables = [self.legal(d, TWO), self.legal(&bare, TWO), self.legal(&bare, OLD)];
+        let terms = if self.rng.chance(1, 2) { self.well_founded(&tables[0]) } else { self.plain(&tables[0]) };
+        let run = slow::run(&tables[0].bytes, TWO, terms);
+        let (log_len, scratch_len) = (self.log_len(&tables[0], &run.answer), self.scratch_len(false));
         let rule = self.rule(&tables[0]);
         let [with, without, in_old] = tables.each_ref().map(|t| {
-            let run = slow::run(&t.bytes, t.edition, budget);
-            let answer = self.call(t, budget, &run, log_len, scratch_len);
+            let run = slow::run(&t.bytes, t.edition, terms);
+            let answer = self.call(t, terms, &run, log_len, scratch_len);
             let lines = self.lines.clone();
             (answer, self.stands(t, 0, rule, &lines), lines)
         });
@@ -1230,7 +1415,7 @@ impl Bench {
         }
         if tables[0].bytes != tables[1].bytes {
             // "An old reader given the old layout, otherwise legal, with an origin in it says 4"
-            self.gives(&old(tables[0].layout()), budget, log_len, scratch_len, &refusal(4));
+            self.gives(&old(tables[0].layout()), terms, log_len, scratch_len, &refusal(4));
             self.alike += 1;
         }
     }
@@ -1240,8 +1425,8 @@ impl Bench {
         for i in 0..25 {
             let d = tables::small(&mut self.rng);
             let t = self.legal(&d, edition);
-            let budget = self.budget(&t);
-            self.any(&t, budget);
+            let terms = self.plain(&t);
+            self.any(&t, terms);
             if i % 4 == 0 {
                 self.sheet(&t.bytes);
             } else if i % 4 == 1 {
@@ -1256,6 +1441,10 @@ impl Bench {
             if i % 2 == 0 {
                 self.parts_any(&t);
             }
+            if i % 5 == 0 {
+                let terms = self.well_founded(&t);
+                self.any(&t, terms);
+            }
         }
     }
 
@@ -1264,8 +1453,12 @@ impl Bench {
         for i in 0..45 {
             let d = tables::small(&mut self.rng);
             let t = tables::damaged(&mut self.rng, d, edition);
-            let budget = self.budget(&t);
-            let answer = self.any(&t, budget);
+            let terms = self.plain(&t);
+            let answer = self.any(&t, terms);
+            if i % 5 == 0 {
+                let terms = self.well_founded(&t);
+                self.any(&t, terms);
+            }
             if i % 15 == 0 {
                 self.sheet(&t.bytes);
             } else if i % 2 == 0 {
@@ -1279,8 +1472,8 @@ impl Bench {
         }
         for i in 0..8 {
             let t = tables::noise(&mut self.rng, edition);
-            let budget = self.budget(&t);
-            let answer = self.any(&t, budget);
+            let terms = if i % 4 == 2 { self.well_founded(&t) } else { self.plain(&t) };
+            let answer = self.any(&t, terms);
             if i % 4 == 0 {
                 self.sheet(&t.bytes);
             } else {
@@ -1290,12 +1483,27 @@ impl Bench {
         }
     }
 
+    /// A reading that there is not, or, more seldom, one that there is.
+    fn perhaps_reading(&mut self) -> u32 {
+        let (any, no_reading) = (self.rng.next() as u32, self.rng.pick(NO_READING));
+        self.rng.pick(&[PLAIN, WELL_FOUNDED, no_reading, no_reading, no_reading, any])
+    }
+
+    /// A table in a reading that there is not.
+    fn no_reading(&mut self, t: &Table) {
+        let any = self.rng.next() as u32;
+        let reading = if self.rng.chance(1, 4) { any.max(2) } else { self.rng.pick(NO_READING) };
+        self.any(t, Terms { reading, budget: any });
+    }
+
     /// A table of an edition that there is not.
     fn no_edition(&mut self, t: &Table) {
         let any = self.rng.next() as u32;
         let edition = if self.rng.chance(1, 4) { any } else { self.rng.pick(NO_EDITION) };
         let t = Table { edition, ..t.clone() };
-        let answer = self.any(&t, any);
+        let answer = self.any(&t, plain(any));
+        let terms = Terms { reading: self.perhaps_reading(), budget: any };
+        self.any(&t, terms);
         self.some_stand(&t, of_table(&answer), 1);
         self.there_and_back(&t);
         self.join_any(&t, &t);
@@ -1353,14 +1561,33 @@ impl Bench {
     fn damaged(&mut self, d: &Draft, edition: u32, count: usize) {
         for _ in 0..count {
             let t = tables::damaged(&mut self.rng, d.clone(), edition);
-            let budget = self.budget(&t);
-            let answer = self.any(&t, budget);
+            let terms = self.plain(&t);
+            let answer = self.any(&t, terms);
             self.some_stand(&t, of_table(&answer), 1);
             self.there_and_back(&t);
         }
     }
 
-    /// A random part of about 205 calls, 13 sheets, 140 standings, 60 conversions, 47 joins, 54 lists of parts and as many parts.
+    /// Tables with loops in the well-founded reading; a damaged one, and one in no reading.
+    fn searched_tables(&mut self, number: u64, edition: u32) {
+        let d = tables::searched(&mut self.rng);
+        let t = self.legal(&d, edition);
+        self.searched(&t, number % 16 == 0);
+        let bad = tables::damaged(&mut self.rng, d, edition);
+        let terms = self.well_founded(&bad);
+        self.any(&bad, terms);
+        self.no_reading(&t);
+        self.no_reading(&bad);
+        for _ in 0..3 {
+            let d = tables::searched(&mut self.rng);
+            let t = self.legal(&d, edition);
+            let terms = self.well_founded(&t);
+            self.any(&t, terms);
+        }
+    }
+
+    /// A random part of about 290 calls, 85 of them in the well-founded reading, 13 sheets, 140 standings, 60 conversions, 47 joins, 54 lists of
+    /// parts and as many parts.
     fn round(&mut self, number: u64) {
         let edition = if number % 4 == 3 { TWO } else { OLD };
         self.place = format!("round {number}");
@@ -1373,8 +1600,8 @@ impl Bench {
         let d = tables::medium(&mut self.rng);
         let t = self.legal(&d, edition);
         for _ in 0..3 {
-            let budget = self.budget(&t);
-            self.any(&t, budget);
+            let terms = self.plain(&t);
+            self.any(&t, terms);
             self.some_stand(&t, 0, 3);
         }
         self.there_and_back(&t);
@@ -1388,6 +1615,12 @@ impl Bench {
             let t = self.legal(&d, edition);
             self.great(&t, 1);
             self.damaged(&d, edition, 3);
+        }
+        self.searched_tables(number, edition);
+        if number % 34 == 0 {
+            let d = tables::large_searched(&mut self.rng);
+            let t = self.legal(&d, edition);
+            self.searched(&t, false);
         }
     }
 
@@ -1416,7 +1649,7 @@ impl Bench {
             for value in 0..=255 {
                 let mut t = case_1.clone();
                 t.bytes[i] = value;
-                let answer = self.any(&t, 30);
+                let answer = self.any(&t, plain(30));
                 self.some_stand(&t, of_table(&answer), 1);
                 self.there_and_back(&t);
             }
@@ -1426,16 +1659,19 @@ impl Bench {
     fn lengths_lent(&mut self) {
         self.place = "lengths lent".to_string();
         let case_1 = case_1();
-        self.lengths(&case_1, u32::MAX);
-        self.lengths(&case_1, 16);
-        self.lengths(&case_1, 13);
-        self.lengths(&case_1, 0);
-        self.lengths(&itself(), u32::MAX);
-        self.lengths(&old(&[0; 10]), 0);
-        self.lengths(&old(&tables::sized(0, 512)), u32::MAX);
-        self.lengths(&old(&[0; 9]), 0);
-        self.lengths(&old(&tables::sized(0, 513)), 0);
-        self.lengths(&with_origins(&case_1), 13);
+        self.lengths(&case_1, plain(u32::MAX));
+        self.lengths(&case_1, plain(16));
+        self.lengths(&case_1, plain(13));
+        self.lengths(&case_1, plain(0));
+        self.lengths(&itself(), plain(u32::MAX));
+        self.lengths(&old(&[0; 10]), plain(0));
+        self.lengths(&old(&tables::sized(0, 512)), plain(u32::MAX));
+        self.lengths(&old(&[0; 9]), plain(0));
+        self.lengths(&old(&tables::sized(0, 513)), plain(0));
+        self.lengths(&with_origins(&case_1), plain(13));
+        self.lengths(&itself(), well_founded(u32::MAX));
+        self.lengths(&itself(), well_founded(12));
+        self.lengths(&with_origins(&document_004()), well_founded(58));
         for t in [case_1.clone(), itself(), old(&[0; 10]), old(&tables::sized(0, 512)), old(&[0; 9])] {
             in_editions(&t).iter().for_each(|t| self.output_lengths(t));
             in_editions(&t).iter().for_each(|t| self.parts_lengths(t));
@@ -1476,8 +1712,8 @@ impl Bench {
             for kind in 0..8 {
                 self.place = format!("{length} bytes of kind {kind} in edition {edition}");
                 let t = Table::of(edition, &self.bytes_of(kind, length));
-                self.any(&t, 20);
-                let answer = self.enough(&t, u32::MAX);
+                self.any(&t, plain(20));
+                let answer = self.enough(&t, plain(u32::MAX));
                 self.some_stand(&t, answer.refused, 1);
                 self.there_and_back(&t);
                 self.sheet(&t.bytes);
@@ -1502,7 +1738,7 @@ impl Bench {
             let mut layout = whole.to_vec();
             layout.resize(length, 0);
             let t = Table::of(edition, &layout);
-            let answer = self.any(&t, 10_000);
+            let answer = self.any(&t, plain(10_000));
             self.some_stand(&t, of_table(&answer), 1);
             self.there_and_back(&t);
             self.sheet(&t.bytes);
@@ -1513,12 +1749,15 @@ impl Bench {
         self.place = "all tables of one atom and two rules with at most one pair".to_string();
         for code in 0..4 * 24 * 24 * 3 {
             let t = self.legal(&two_rules(code), OLD);
-            let budget = self.budget(&t);
-            self.enough(&t, u32::MAX);
-            self.enough(&with_origins(&t), u32::MAX);
-            self.enough(&t, budget);
+            let terms = self.plain(&t);
+            self.enough(&t, plain(u32::MAX));
+            self.enough(&with_origins(&t), plain(u32::MAX));
+            self.enough(&t, terms);
             self.all_stand(&t);
             self.there_and_back(&t);
+            if code % 4 == 0 {
+                self.founded(&t);
+            }
         }
     }
 
@@ -1582,6 +1821,7 @@ impl Bench {
                 // shape 2 is the longest table there is
                 assert!(shape != 2 || t.layout().len() == 32_778 && t.layout()[..2] == 512u16.to_le_bytes());
                 self.great(&t, 3);
+                self.founded(&t);
                 self.parts_lengths(&t);
                 self.big_and_bad(&d, &t);
             }
@@ -1594,14 +1834,14 @@ impl Bench {
         for length in [n - 1, n + 1, n + 2, 32_778, 32_779, 32_780, 40_000] {
             let mut t = whole.clone();
             t.bytes.resize(length, 0);
-            let answer = self.any(&t, 60_000);
+            let answer = self.any(&t, plain(60_000));
             self.some_stand(&t, of_table(&answer), 1);
             self.sheet(&t.bytes);
         }
         for _ in 0..10 {
             let t = tables::damaged(&mut self.rng, d.clone(), whole.edition);
-            let budget = self.budget(&t);
-            let answer = self.any(&t, budget);
+            let terms = self.plain(&t);
+            let answer = self.any(&t, terms);
             self.some_stand(&t, of_table(&answer), 1);
             self.there_and_back(&t);
             self.sheet(&t.bytes);
@@ -1609,7 +1849,7 @@ impl Bench {
         for which in 0..tables::FAULTS {
             let mut d = d.clone();
             tables::fault(&mut self.rng, &mut d, which);
-            self.enough(&d.table(whole.edition), 60_000);
+            self.enough(&d.table(whole.edition), plain(60_000));
         }
     }
 
@@ -1625,7 +1865,7 @@ impl Bench {
             last.into_iter().for_each(|(t, s)| d.pair(t, s));
             d.tidy();
             for t in [d.table(OLD), d.table(TWO)] {
-                let answer = self.enough(&t, u32::MAX);
+                let answer = self.enough(&t, plain(u32::MAX));
                 self.some_stand(&t, answer.refused, 2);
                 self.there_and_back(&t);
                 self.sheet(&t.bytes);
@@ -1634,18 +1874,18 @@ impl Bench {
     }
 
     /// A call that must give this, against both engines. A mutant is left to the archive to catch.
-    fn gives(&mut self, t: &Table, budget: u32, log_len: usize, scratch_len: usize, wanted: &Run) {
-        let run = slow::run(&t.bytes, t.edition, budget);
-        let came = slow::call(&t.bytes, t.edition, &run, log_len, scratch_len);
-        let lines = &run.1[..came.lines as usize];
+    fn gives(&mut self, t: &Table, terms: Terms, log_len: usize, scratch_len: usize, wanted: &Wanted) {
+        let run = slow::run(&t.bytes, t.edition, terms);
+        let came = slow::call(&t.bytes, t.edition, terms, &run, log_len, scratch_len);
+        let lines = &run.lines[..came.lines as usize];
         let difference =
             answers_differ(&came, &wanted.0).or_else(|| elements_differ("log word", lines, &wanted.1, 0)).filter(|_| mutant(0));
         if let Some(what) = difference {
-            let call = format!("edition {} budget {budget} log_len {log_len} scratch_len {scratch_len}", t.edition);
+            let call = format!("edition {} {terms:?} log_len {log_len} scratch_len {scratch_len}", t.edition);
             let answers = format!("slow   {came:?} {lines:?}\nwanted {wanted:?}");
             self.mismatch(&format!("slow engine: {what}"), &t.bytes, format!("{call}\n{answers}"));
         }
-        self.call(t, budget, &run, log_len, scratch_len);
+        self.call(t, terms, &run, log_len, scratch_len);
     }
 
     /// A standing that must be given, against both engines, likewise.
@@ -1724,8 +1964,10 @@ impl Bench {
 
     /// A refusal of the table, which every call must give, whatever is lent and whatever rule or atom is named.
     fn gives_refusal(&mut self, t: &Table, number: u32) {
-        self.gives(t, u32::MAX, LOG_MOST, SCRATCH, &refusal(number));
-        self.gives(t, 0, 0, 0, &refusal(number));
+        for reading in [PLAIN, WELL_FOUNDED] {
+            self.gives(t, Terms { reading, budget: u32::MAX }, LOG_MOST, SCRATCH, &refusal(number));
+            self.gives(t, Terms { reading, budget: 0 }, 0, 0, &refusal(number));
+        }
         for rule in [0, 65_536] {
             self.gives_standing(t, rule, &[0, 2], &Standing { refused: number, standing: 0 });
         }
@@ -1749,26 +1991,22 @@ impl Bench {
         }
     }
 
-    fn case(&mut self, of: &str, (name, t, budget, numbers, log): Case) {
+    fn case(&mut self, of: &str, reading: u32, (name, t, budget, numbers, log): Case) {
         self.place = format!("{of}: {name}");
         for t in in_editions(&t) {
             let (log_len, scratch_len) = (self.full_len(&t), self.scratch_len(true));
-            self.gives(&t, budget, log_len, scratch_len, &(answer(numbers), log.to_vec()));
+            self.gives(&t, Terms { reading, budget }, log_len, scratch_len, &(answer(numbers), log.to_vec()));
         }
     }
 
-    /// The cases of document 01, those of counted pairs, of short logs, of standings and of editions, against both engines.
+    /// The cases of document 01, those of counted pairs, of short logs, of standings, of editions, of joins, of parts and of searches, against
+    /// both engines.
     fn cases(&mut self) {
-        cases().into_iter().for_each(|case| self.case("document 01", case));
-        pair_counts().into_iter().for_each(|case| self.case("document 02, S-4", case));
+        cases().into_iter().for_each(|case| self.case("document 01", PLAIN, case));
+        pair_counts().into_iter().for_each(|case| self.case("document 02, S-4", PLAIN, case));
         self.place = "document 01: 512 atoms".to_string();
-        assert_eq!(self.enough(&old(&tables::sized(0, 512)), u32::MAX).refused, 0);
-        for (name, t, budget, log_len, numbers, log) in short_logs() {
-            self.place = format!("document 02, S-2: {name}");
-            for t in in_editions(&t) {
-                self.gives(&t, budget, log_len, SCRATCH, &(answer(numbers), log.to_vec()));
-            }
-        }
+        assert_eq!(self.enough(&old(&tables::sized(0, 512)), plain(u32::MAX)).refused, 0);
+        short_logs().into_iter().for_each(|case| self.short_log("document 02, S-2", PLAIN, case));
         for (name, t, text) in sheets() {
             self.place = format!("document 01: {name}");
             self.slow_prints(&t.bytes, text);
@@ -1790,6 +2028,38 @@ impl Bench {
         self.join_orders();
         self.list_cases();
         self.part_cases();
+        self.search_cases();
+    }
+
+    fn short_log(&mut self, of: &str, reading: u32, (name, t, budget, log_len, numbers, log): ShortLog) {
+        self.place = format!("{of}: {name}");
+        for t in in_editions(&t) {
+            self.gives(&t, Terms { reading, budget }, log_len, SCRATCH, &(answer(numbers), log.to_vec()));
+        }
+    }
+
+    fn search_cases(&mut self) {
+        searches().into_iter().for_each(|case| self.case("document 02, S-9", WELL_FOUNDED, case));
+        searches_in_short_logs().into_iter().for_each(|case| self.short_log("document 02, S-9", WELL_FOUNDED, case));
+        for (number, t) in (1..).zip(refused()) {
+            self.place = format!("document 02, S-9: a table refused by {number}");
+            for t in in_editions(&t) {
+                self.gives(&t, well_founded(u32::MAX), LOG_MOST, SCRATCH, &refusal(number));
+                self.gives(&t, well_founded(0), 0, 0, &refusal(number));
+            }
+        }
+        for &reading in NO_READING {
+            self.place = format!("document 02, S-9: reading {reading}");
+            for t in [case_1(), two(&case_1()), old(&[]), opposed(&[(0, 0)]), Table { edition: 3, ..case_1() }] {
+                self.gives(&t, Terms { reading, budget: u32::MAX }, LOG_MOST, SCRATCH + 1, &refusal(1));
+                self.gives(&t, Terms { reading, budget: 0 }, 0, 0, &refusal(1));
+            }
+        }
+        for (_, t, _, _, _) in searches() {
+            self.place = "document 02, S-9: what is promised of every table".to_string();
+            in_editions(&t).iter().for_each(|t| self.founded(t));
+            self.sheet(&t.bytes);
+        }
     }
 
     fn standing_cases(&mut self) {
@@ -1847,7 +2117,7 @@ impl Bench {
             return self.gives_refusal(t, 4);
         }
         let log = [[0, 5, 2, 7], [1, 5, 7, 2], [1, 5, 3, 7]][left % 4];
-        self.gives(t, 6, 4, SCRATCH, &(answer([0, 1, 4, 4, 6]), log.to_vec()));
+        self.gives(t, plain(6), 4, SCRATCH, &(answer([0, 1, 4, 4, 6]), log.to_vec()));
         self.gives_standing(t, 0, &log, &Standing { refused: 0, standing: FIRING });
         match t.edition {
             OLD => self.gives_conversion(t, 15, 0, &two(t).bytes),
@@ -1958,7 +2228,7 @@ impl Bench {
             self.place = r.place();
             let (budget, answer) = (r.long(), r.answer());
             let log = (0..answer.lines).map(|_| r.word()).collect();
-            self.gives(&old(&t), budget, LOG_MOST, SCRATCH, &(answer, log));
+            self.gives(&old(&t), plain(budget), LOG_MOST, SCRATCH, &(answer, log));
             r.record += 1;
         }
         r.end();
@@ -1972,7 +2242,25 @@ impl Bench {
             let t = r.field();
             let [budget, log_len, scratch_len] = [(); 3].map(|_| r.number());
             let wanted = (answer([(); 5].map(|_| r.number())), r.words());
-            self.gives(&old(&t), budget, log_len as usize, scratch_len as usize, &wanted);
+            self.gives(&old(&t), plain(budget), log_len as usize, scratch_len as usize, &wanted);
+            r.record += 1;
+        }
+        r.end();
+    }
+
+    /// well-founded.bin, against both engines, in logs that are long enough and in one that has a word for each line.
+    fn search_vectors(&mut self, dir: &str) {
+        let mut r = Reader::open(dir, "well-founded.bin");
+        while r.at < r.bytes.len() {
+            self.place = r.place();
+            let t = old(&r.field());
+            let terms = well_founded(r.number());
+            let [finished, lines, worked, spent] = [(); 4].map(|_| r.number());
+            let wanted = (answer([0, finished, lines, worked, spent]), r.words());
+            for log_len in [LOG_MOST, lines as usize] {
+                self.gives(&t, terms, log_len, SCRATCH, &wanted);
+                self.gives(&with_origins(&t), terms, log_len, SCRATCH, &wanted);
+            }
             r.record += 1;
         }
         r.end();
@@ -1990,7 +2278,7 @@ impl Bench {
             if (1..=7).contains(&refused) {
                 self.gives_refusal(&t, refused);
             } else {
-                self.enough(&t, u32::MAX);
+                self.enough(&t, plain(u32::MAX));
             }
             r.record += 1;
         }
@@ -2051,11 +2339,20 @@ impl Bench {
         r.end();
     }
 
+    fn calls_in(&self, reading: u32) -> u64 {
+        let runs = self.counts.iter().map(|c| &c.runs[reading as usize]);
+        runs.map(|r| r.stopped + r.finished + r.refused.iter().sum::<u64>()).sum()
+    }
+
     /// How often each answer came; ends the program.
     fn end(&self) -> ! {
         let [none, old, two] = &self.counts;
         let mut list = vec![
             counted("calls", self.calls, 200_000),
+            counted("calls in the well-founded reading", self.calls_in(WELL_FOUNDED), 100_000),
+            counted("tables that keep what S-9 promises", self.founded, 4_000),
+            counted("tables that conclude more in the well-founded reading", self.concluded, 2_000),
+            counted("tables that five times Size does not finish in it", self.beyond, 1_000),
             counted("sheets", self.sheets, 20_000),
             counted("standings", self.standings, 200_000),
             counted("conversions", self.conversions, 200_000),
@@ -2076,7 +2373,9 @@ impl Bench {
         list.extend(two.list("edition two: ", 5_000));
         list.extend([
             counted("edition two: conversions refused 10:", two.not_converted[10], 1_000),
-            counted("no edition: refused 1:", none.refused[1], 1_000),
+            counted("no edition: refused 1:", none.runs[PLAIN as usize].refused[1], 1_000),
+            counted("no edition: well-founded, refused 1:", none.runs[WELL_FOUNDED as usize].refused[1], 100),
+            counted("no edition: no reading, refused 1:", none.runs[2].refused[1], 1_000),
             counted("no edition: standings refused 1:", none.not_stood[1], 1_000),
             counted("no edition: conversions refused 1:", none.not_converted[1], 1_000),
             counted("no edition: joins refused 1:", none.joins.of_house[1], 1_000),
@@ -2097,7 +2396,10 @@ fn answer([refused, finished, lines, worked, spent]: [u32; 5]) -> Answer {
     Answer { refused, finished, lines, worked, spent }
 }
 
-fn refusal(number: u32) -> Run {
+/// What a call must give: an answer, and the lines in the order of the log.
+type Wanted = (Answer, Vec<u16>);
+
+fn refusal(number: u32) -> Wanted {
     (answer([number, 0, 0, 0, 0]), vec![])
 }
 
@@ -2247,6 +2549,88 @@ fn short_logs() -> Vec<ShortLog> {
         ("a rule from a literal to itself, 2 words for 3 lines", itself(), u32::MAX, 2, nine, &[]),
         ("a rule from a literal to itself, 2 words for 2 lines", itself(), 3, 2, [0, 0, 2, 0, 3], &own[..2]),
         ("a rule from a literal to itself, 1 word for 2 lines", itself(), 3, 1, nine, &[]),
+        ("a rule from a literal to itself, no words for no lines", itself(), 2, 0, [0; 5], &[]),
+    ]
+}
+
+/// Document 004's example: b ⇒ a, ¬c ⇒ a, d ⇒ a, a ⇒ ¬c, ⇒ d and ⇒ ¬d, with a, b, c and d the atoms 0 to 3.
+fn document_004() -> Table {
+    table(4, &[], &[(1, 0, &[2]), (1, 0, &[5]), (1, 0, &[6]), (1, 5, &[0]), (1, 6, &[]), (1, 7, &[])], &[])
+}
+
+/// Literals 0 and 2, each resting on the other by a rule of this kind.
+fn each_other(kind: usize) -> Table {
+    table(2, &[], &[(kind, 0, &[2]), (kind, 2, &[0])], &[])
+}
+
+/// In each of two steps x ⇒ x, ⇒ y, x ⇒ ¬y over that, and ⇒ ¬y below it; x of the second step rests on ¬y of the first, too. So the second
+/// step's loop is fed until a search has decided the first.
+fn two_steps() -> Table {
+    let (x, y, z, w) = (0, 2, 4, 6);
+    let rules: &[(usize, usize, &[usize])] = &[
+        (1, x, &[x]),
+        (1, y, &[]),
+        (1, y + 1, &[x]),
+        (1, y + 1, &[]),
+        (1, z, &[z]),
+        (1, z, &[y + 1]),
+        (1, w, &[]),
+        (1, w + 1, &[z]),
+        (1, w + 1, &[]),
+    ];
+    table(4, &[], rules, &[(1, 3), (2, 1), (6, 8), (7, 6)])
+}
+
+fn searches() -> Vec<Case> {
+    let example: &[u16] = &[1, 5, 9, 13, 17, 21, 25, 29, 7, 11, 15, 19, 27, 31, 3, 23];
+    let steps: &[u16] = &[1, 5, 9, 13, 17, 21, 25, 29, 7, 23, 3, 15, 10, 19, 31, 26];
+    let rule = |kind: usize| table(1, &[], &[(kind, 0, &[0])], &[]);
+    let stronger_itself = table(1, &[], &[(1, 0, &[]), (1, 1, &[]), (1, 0, &[0])], &[(2, 1)]);
+    let strict_below = table(2, &[], &[(0, 0, &[0]), (1, 2, &[0])], &[]);
+    let fed = table(2, &[0], &[(0, 0, &[2]), (0, 2, &[0])], &[]);
+    let strict_and_free = table(1, &[], &[(0, 0, &[0]), (1, 0, &[])], &[]);
+    let loop_and_defeater = table(1, &[], &[(1, 0, &[0]), (2, 0, &[])], &[]);
+    vec![
+        ("document 004's example", document_004(), 90, [0, 1, 16, 16, 90], example),
+        ("document 004's example, the bound", document_004(), 402, [0, 1, 16, 16, 90], example),
+        ("document 004's example, budget 89", document_004(), 89, [0, 0, 16, 16, 76], example),
+        ("document 004's example, budget 75", document_004(), 75, [0, 0, 16, 16, 62], example),
+        ("document 004's example, five times Size", document_004(), 70, [0, 0, 16, 16, 62], example),
+        ("document 004's example, budget 61", document_004(), 61, [0, 0, 16, 15, 60], example),
+        ("document 004's example, budget 58", document_004(), 58, [0, 0, 16, 14, 58], example),
+        ("document 004's example, budget 57", document_004(), 57, [0, 0, 14, 14, 44], &example[..14]),
+        ("document 004's example, budget 44", document_004(), 44, [0, 0, 14, 14, 44], &example[..14]),
+        ("document 004's example, budget 43", document_004(), 43, [0, 0, 14, 14, 30], &example[..14]),
+        ("document 004's example, budget 30", document_004(), 30, [0, 0, 14, 14, 30], &example[..14]),
+        ("document 004's example, budget 29", document_004(), 29, [0, 0, 14, 13, 29], &example[..14]),
+        ("document 004's example, budget 13", document_004(), 13, [0, 0, 0, 0, 0], &[]),
+        ("the empty table", old(&[0; 10]), 0, [0, 1, 0, 0, 0], &[]),
+        ("case 1", case_1(), 31, [0, 1, 8, 8, 31], &[0, 5, 9, 13, 2, 7, 10, 15]),
+        ("case 1, budget 30", case_1(), 30, [0, 0, 8, 8, 24], &[0, 5, 9, 13, 2, 7, 10, 15]),
+        ("facts 0 and 1", both(), 13, [0, 1, 4, 4, 13], &[0, 4, 2, 6]),
+        ("a defeasible rule from a literal to itself", rule(1), 99, [0, 1, 4, 4, 20], &[1, 5, 7, 3]),
+        ("a strict rule from a literal to itself", rule(0), 99, [0, 1, 4, 4, 24], &[5, 7, 1, 3]),
+        ("a defeater from a literal to itself", rule(2), 99, [0, 1, 4, 4, 14], &[1, 5, 3, 7]),
+        ("two that rest on each other", each_other(1), 99, [0, 1, 8, 8, 40], &[1, 5, 9, 13, 7, 15, 3, 11]),
+        ("two that rest on each other strictly", each_other(0), 99, [0, 1, 8, 8, 48], &[5, 13, 7, 15, 1, 9, 3, 11]),
+        ("two that rest on each other strictly, one of them a fact", fed, 99, [0, 1, 8, 8, 33], &[0, 5, 13, 2, 8, 7, 15, 10]),
+        ("a strict loop, and a rule that rests on it", strict_below, 99, [0, 1, 8, 8, 47], &[5, 9, 13, 7, 15, 1, 3, 11]),
+        ("a strict loop, and a defeasible rule without antecedents", strict_and_free, 99, [0, 1, 4, 4, 22], &[5, 7, 2, 1]),
+        ("a loop, and a defeater without antecedents", loop_and_defeater, 99, [0, 1, 4, 4, 25], &[1, 5, 7, 3]),
+        ("a stronger rule from a literal to itself", stronger_itself, 99, [0, 1, 3, 3, 21], &[1, 5, 7]),
+        ("two steps", two_steps(), 999, [0, 1, 16, 16, 177], steps),
+        ("two steps, before the last search", two_steps(), 176, [0, 0, 16, 16, 155], steps),
+    ]
+}
+
+fn searches_in_short_logs() -> Vec<ShortLog> {
+    let nine = [9, 0, 0, 0, 0];
+    vec![
+        ("a rule from a literal to itself, 4 words for 4 lines", itself(), u32::MAX, 4, [0, 1, 4, 4, 20], &[1, 5, 7, 3]),
+        ("a rule from a literal to itself, 3 words for 4 lines", itself(), u32::MAX, 3, nine, &[]),
+        ("a rule from a literal to itself, 3 words for 4 lines of which 3 are worked", itself(), 12, 3, nine, &[]),
+        ("a rule from a literal to itself, 3 words for 3 lines", itself(), 11, 3, [0, 0, 3, 3, 9], &[1, 5, 7]),
+        ("a rule from a literal to itself, 2 words for 3 lines", itself(), 11, 2, nine, &[]),
         ("a rule from a literal to itself, no words for no lines", itself(), 2, 0, [0; 5], &[]),
     ]
 }
@@ -2700,6 +3084,7 @@ fn main() {
         bench.join_vectors(&dir);
         bench.list_vectors(&dir);
         bench.part_vectors(&dir);
+        bench.search_vectors(&dir);
     }
     bench.last = bench.calls + calls;
     bench.cases();

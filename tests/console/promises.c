@@ -1,6 +1,6 @@
-/* The promises of include/flyrules.h, on case 1, on a rule from a literal to itself, and on a table with every size at its limit, in the
- * old layout and in edition two. The first that is not kept ends the program with status 1 and a line that says which call it was, what
- * differs, what came and what was wanted. */
+/* The promises of include/flyrules.h, on case 1, on a rule from a literal to itself, on document 004's example, and on a table with every size
+ * at its limit, in the old layout and in edition two, and of runs in both readings. The first that is not kept ends the program with status 1
+ * and a line that says which call it was, what differs, what came and what was wanted. */
 #define _DEFAULT_SOURCE
 #include "flyrules.h"
 
@@ -12,7 +12,8 @@
 
 enum { MORE = 5 }; /* words past what a run needs, bytes past a new file */
 
-/* A table, the lines that a run to its finish writes, and the sheet of these bytes. */
+/* A table, the lines that a run to its finish writes, and the sheet of these bytes. In the well-founded reading the lines go on where the plain
+ * reading finishes: the log is of the former. */
 typedef struct {
     const char *name;
     uint32_t edition;
@@ -25,8 +26,18 @@ typedef struct {
 static const uint8_t BYTES_1[30] = {2, 0, 1, 0, 2, 0, 1, 0, 1, 0, 0, 0, 1, 0, 1, 0, 0, 0, 0, 0, 0, 0, 2, 0, 3, 0, 0, 0, 1, 0};
 static const uint16_t LOG_1[8] = {0, 5, 9, 13, 2, 7, 10, 15};
 static const uint8_t ITSELF_BYTES[18] = {1, 0, 0, 0, 1, 0, 1, 0, 0, 0, 1, 0, 0, 0, 0, 0, 0, 0};
-static const uint16_t ITSELF_LOG[3] = {1, 5, 7};
+static const uint16_t ITSELF_LOG[4] = {1, 5, 7, 3};
 static const uint8_t CIRCLE_BYTES[18] = {1, 0, 0, 0, 1, 0, 0, 0, 1, 0, 1, 0, 0, 0, 0, 0, 0, 0};
+
+/* document 004's example: b ⇒ a, ¬c ⇒ a, d ⇒ a, a ⇒ ¬c, ⇒ d and ⇒ ¬d, of the atoms a to d; in edition two with the origins house, tour and
+ * console, and again */
+static const uint8_t EXAMPLE_BYTES[51] = {2, 4, 0, 0, 0, 6, 0, 4, 0, 0, 0,
+                                          1, 0, 1, 0, 1, 0, 1, 0, 1, 0, 1, 0, 0, 0, 1, 0, 2, 0, 3, 0,
+                                          0, 0, 0, 0, 0, 0, 5, 0, 6, 0, 7, 0, 2, 0, 5, 0, 6, 0, 0, 0};
+static const uint8_t EXAMPLE_ORIGINS_BYTES[51] = {2, 4, 0, 0, 0, 6, 0, 4, 0, 0, 0,
+                                                  5, 0, 9, 0, 13, 0, 5, 0, 9, 0, 13, 0, 0, 0, 1, 0, 2, 0, 3, 0,
+                                                  0, 0, 0, 0, 0, 0, 5, 0, 6, 0, 7, 0, 2, 0, 5, 0, 6, 0, 0, 0};
+static const uint16_t EXAMPLE_LOG[16] = {1, 5, 9, 13, 17, 21, 25, 29, 7, 11, 15, 19, 27, 31, 3, 23};
 
 /* case 1 in edition two: without origins, with the origins console and house, and with console and one that there is not */
 static const uint8_t TWO_BYTES[31] = {2, 2, 0, 1, 0, 2, 0, 1, 0, 1, 0, 0, 0, 1, 0, 1, 0, 0, 0, 0, 0, 0, 0, 2, 0, 3, 0, 0, 0, 1, 0};
@@ -58,6 +69,9 @@ static const uint8_t TWO_ATOMS_BYTES[11] = {2, 2, 0, 0, 0, 0, 0, 0, 0, 0, 0}, MO
 static const table CASE_1 = {"case 1", FLY_OLD, BYTES_1, sizeof BYTES_1, LOG_1, "atoms 2\n0 go\n1 go\nspent 17 of 19\n"};
 static const table ITSELF = {"a rule from a literal to itself", FLY_OLD, ITSELF_BYTES, sizeof ITSELF_BYTES, ITSELF_LOG,
                              "atoms 1\n0 open\nspent 6 of 9\n"};
+static const table EXAMPLE = {"document 004's example", FLY_OLD, EXAMPLE_BYTES + 1, 50, EXAMPLE_LOG,
+                              "atoms 4\n0 open\n1 idle\n2 open\n3 split\nspent 30 of 38\n"};
+static const table EXAMPLE_ORIGINS = {"document 004's example with origins", FLY_TWO, EXAMPLE_ORIGINS_BYTES, 51, EXAMPLE_LOG, NULL};
 static const table NOTHING = {"no bytes", FLY_OLD, BYTES_1, 0, NULL, "refused 1\n"};
 static const table STUB = {"nine bytes of case 1", FLY_OLD, BYTES_1, 9, NULL, "refused 1\n"};
 static const table SHORT = {"case 1 but for a byte", FLY_OLD, BYTES_1, 29, NULL, "refused 3\n"};
@@ -298,12 +312,13 @@ static void table_left(const char *call, uint8_t *bytes, const table *t) {
     give_back(bytes, t->n);
 }
 
-static void runs(const table *t, uint32_t budget, size_t log_len, size_t scratch_len, fly_answer want) {
-    char call[128];
-    snprintf(call, sizeof call, "%s (budget %u, log %zu, scratch %zu)", t->name, (unsigned)budget, log_len, scratch_len);
+static void runs_in(const table *t, uint32_t reading, uint32_t budget, size_t log_len, size_t scratch_len, fly_answer want) {
+    char call[160];
+    snprintf(call, sizeof call, "%s (reading %u, budget %u, log %zu, scratch %zu)", t->name, (unsigned)reading, (unsigned)budget, log_len,
+             scratch_len);
     uint8_t *bytes = lend_table(t);
     buffers b = lend(log_len, scratch_len);
-    fly_answer a = fly_run(bytes, t->n, t->edition, budget, b.log, log_len, b.scratch, scratch_len);
+    fly_answer a = fly_run(bytes, t->n, t->edition, reading, budget, b.log, log_len, b.scratch, scratch_len);
     same(call, "refused", NUMBER, a.refused, want.refused);
     same(call, "finished", NUMBER, a.finished, want.finished);
     same(call, "lines", NUMBER, a.lines, want.lines);
@@ -311,6 +326,14 @@ static void runs(const table *t, uint32_t budget, size_t log_len, size_t scratch
     same(call, "spent", NUMBER, a.spent, want.spent);
     left(call, b, t->lines, want.lines, want.refused ? 0 : FLY_SCRATCH);
     table_left(call, bytes, t);
+}
+
+static void runs(const table *t, uint32_t budget, size_t log_len, size_t scratch_len, fly_answer want) {
+    runs_in(t, FLY_PLAIN, budget, log_len, scratch_len, want);
+}
+
+static void searches(const table *t, uint32_t budget, size_t log_len, size_t scratch_len, fly_answer want) {
+    runs_in(t, FLY_WELL_FOUNDED, budget, log_len, scratch_len, want);
 }
 
 /* How a rule stands by these words, which are in a buffer of their own. */
@@ -388,11 +411,23 @@ static void parts(const table *t, uint32_t atom, size_t out_len, uint32_t refuse
     table_left(call, bytes, t);
 }
 
+/* A reading that there is not is refused like an edition that there is not, whatever the table and whatever is lent. */
+static void no_reading(const table *t) {
+    static const uint32_t NUMBERS[8] = {2, 3, 255, 256, 257, 65536, 65537, UINT32_MAX};
+    for (size_t i = 0; i < 8; i++) {
+        runs_in(t, NUMBERS[i], UINT32_MAX, FLY_LOG, FLY_SCRATCH + MORE, (fly_answer){FLY_TRUNCATED, 0, 0, 0, 0});
+        runs_in(t, NUMBERS[i], 0, 0, 0, (fly_answer){FLY_TRUNCATED, 0, 0, 0, 0});
+    }
+}
+
 /* The table's refusal comes before that of a rule number, of an atom, and of what is lent. */
 static void refuses(const table *t, uint32_t number) {
     static const uint32_t NUMBERS[4] = {0, 1, 65536, UINT32_MAX};
     runs(t, 19, FLY_LOG, FLY_SCRATCH + MORE, (fly_answer){number, 0, 0, 0, 0});
     runs(t, 19, 0, 0, (fly_answer){number, 0, 0, 0, 0});
+    searches(t, UINT32_MAX, FLY_LOG, FLY_SCRATCH + MORE, (fly_answer){number, 0, 0, 0, 0});
+    searches(t, 19, 0, 0, (fly_answer){number, 0, 0, 0, 0});
+    no_reading(t);
     for (size_t i = 0; i < 4; i++) stands(t, NUMBERS[i], LOG_1, 8, (fly_standing){number, 0});
     converts(t, 0, number, NULL);
     converts(t, FLY_MAX_TWO, number, NULL);
@@ -502,6 +537,55 @@ static void edition_two(void) {
     refuses(&SHORT_TWO, FLY_WRONG_LENGTH);
     refuses(&ABOVE_3, FLY_BAD_KIND);
     refuses(&OLD_ORIGINS, FLY_BAD_KIND);
+}
+
+/* ---- the well-founded reading ---- */
+
+/* Size, and the budget that finishes document 004's example in this reading whatever it says: 5A+F+N+3B+3P, and Size 6A + 2 times. */
+enum { EXAMPLE_SIZE = 14, EXAMPLE_BOUND = 38 + 26 * EXAMPLE_SIZE };
+
+/* The plain reading leaves a and ¬c open; two searches, of which the second gives them −∂, and two that add nothing cost Size each. Between
+ * them the run stops with every line worked. */
+static void example_searched(const table *t) {
+    const fly_answer all = {0, 1, 16, 16, 90}, nine = {FLY_SHORT_LOG, 0, 0, 0, 0};
+    runs(t, EXAMPLE_BOUND, 16, FLY_SCRATCH, (fly_answer){0, 1, 14, 14, 30});
+    searches(t, UINT32_MAX, FLY_LOG, FLY_SCRATCH + MORE, all);
+    searches(t, EXAMPLE_BOUND, 16, FLY_SCRATCH, all);
+    searches(t, 90, 16, FLY_SCRATCH + MORE, all);
+    searches(t, 89, 16, FLY_SCRATCH, (fly_answer){0, 0, 16, 16, 76});
+    searches(t, 5 * EXAMPLE_SIZE, 16, FLY_SCRATCH, (fly_answer){0, 0, 16, 16, 62});
+    searches(t, 58, 16 + MORE, FLY_SCRATCH, (fly_answer){0, 0, 16, 14, 58});
+    for (uint32_t budget = 44; budget < 58; budget++) searches(t, budget, 16, FLY_SCRATCH, (fly_answer){0, 0, 14, 14, 44});
+    searches(t, 43, 16, FLY_SCRATCH, (fly_answer){0, 0, 14, 14, 30});
+    searches(t, 29, 16, FLY_SCRATCH, (fly_answer){0, 0, 14, 13, 29});
+    searches(t, EXAMPLE_SIZE, 16, FLY_SCRATCH, (fly_answer){0, 0, 8, 0, EXAMPLE_SIZE});
+    searches(t, EXAMPLE_SIZE - 1, 0, FLY_SCRATCH, (fly_answer){0, 0, 0, 0, 0});
+    searches(t, 57, 14, FLY_SCRATCH, (fly_answer){0, 0, 14, 14, 44});
+    searches(t, 57, 13, FLY_SCRATCH, nine);
+    searches(t, 58, 15, FLY_SCRATCH + MORE, nine);
+    searches(t, UINT32_MAX, 15, FLY_SCRATCH, nine);
+    searches(t, UINT32_MAX, 15, FLY_SCRATCH - 1, (fly_answer){FLY_SHORT_SCRATCH, 0, 0, 0, 0});
+}
+
+/* A table in which every literal is a fact has two searches that add nothing. */
+static void well_founded(void) {
+    enum { LINES = 2048, SPENT = 20302 };
+    example_searched(&EXAMPLE);
+    example_searched(&EXAMPLE_ORIGINS);
+    searches(&CASE_1, UINT32_MAX, 8, FLY_SCRATCH, (fly_answer){0, 1, 8, 8, 31});
+    searches(&ORIGINS, 30, 8, FLY_SCRATCH, (fly_answer){0, 0, 8, 8, 24});
+    searches(&ITSELF, UINT32_MAX, 4, FLY_SCRATCH, (fly_answer){0, 1, 4, 4, 20});
+    searches(&ITSELF, 11, 3, FLY_SCRATCH, (fly_answer){0, 0, 3, 3, 9});
+    searches(&ITSELF, 12, 3, FLY_SCRATCH, (fly_answer){FLY_SHORT_LOG, 0, 0, 0, 0});
+    searches(&LIMITS, UINT32_MAX, FLY_LOG, FLY_SCRATCH, (fly_answer){0, 1, LINES, LINES, SPENT + 2 * OPENING});
+    searches(&LIMITS, SPENT + 2 * OPENING - 1, FLY_LOG, FLY_SCRATCH, (fly_answer){0, 0, LINES, LINES, SPENT + OPENING});
+    searches(&LIMITS_ORIGINS, SPENT + OPENING - 1, FLY_LOG, FLY_SCRATCH, (fly_answer){0, 0, LINES, LINES, SPENT});
+    searches(&LIMITS, ALL_BUT_ONE, FLY_LOG - 1, FLY_SCRATCH, (fly_answer){0, 0, 2047, 1023, ALL_BUT_ONE});
+    prints(&EXAMPLE); /* a sheet is of the plain reading */
+    no_reading(&CASE_1);
+    no_reading(&ORIGINS);
+    no_reading(&EXAMPLE);
+    no_reading(&LIMITS);
 }
 
 /* A table of an edition that there is not. */
@@ -627,6 +711,8 @@ static void *again(void *unused) {
         runs(&CASE_1, 13, 9, FLY_SCRATCH + MORE, (fly_answer){0, 0, 6, 4, 11});
         runs(&CASE_1, 13, 7, FLY_SCRATCH, (fly_answer){0, 0, 6, 4, 11});
         runs(&CASE_1, 19, 7, FLY_SCRATCH, (fly_answer){FLY_SHORT_LOG, 0, 0, 0, 0});
+        searches(&EXAMPLE, UINT32_MAX, 16, FLY_SCRATCH, (fly_answer){0, 1, 16, 16, 90});
+        searches(&EXAMPLE_ORIGINS, 57, 14, FLY_SCRATCH, (fly_answer){0, 0, 14, 14, 44});
         prints(&CASE_1);
         stands(&CASE_1, 0, LOG_1, 8, FIRING);
         stands(&ORIGINS, 0, LOG_1, 4, WAITING);
@@ -668,11 +754,19 @@ typedef struct {
 } one_call;
 
 /* The scratch is longer than it need be: a part of it is lent on. */
-static void *run_call(void *call) {
+static inline void run_once(const one_call *c, uint32_t reading) {
     static uint16_t log[FLY_LOG], scratch[FLY_SCRATCH + MORE];
-    const one_call *c = call;
     const table *t = c->of;
-    CHECK(fly_run(t->bytes, t->n, t->edition, c->number, log, c->length, scratch, FLY_SCRATCH + MORE).refused == c->refused);
+    CHECK(fly_run(t->bytes, t->n, t->edition, reading, c->number, log, c->length, scratch, FLY_SCRATCH + MORE).refused == c->refused);
+}
+
+static void *run_call(void *call) {
+    run_once(call, FLY_PLAIN);
+    return call;
+}
+
+static void *search_call(void *call) {
+    run_once(call, FLY_WELL_FOUNDED);
     return call;
 }
 
@@ -762,6 +856,18 @@ static void stack_use(void) {
                                           {&LIMITS, UINT32_MAX, FLY_LOG - 1, FLY_SHORT_LOG},
                                           {&ORIGINS, 13, 7, 0},
                                           {&LIMITS_ORIGINS, ALL_BUT_ONE, FLY_LOG - 1, 0}};
+    static const one_call SEARCHES[] = {{&CASE_1, UINT32_MAX, FLY_LOG, 0},
+                                        {&ITSELF, UINT32_MAX, FLY_LOG, 0},
+                                        {&EXAMPLE, UINT32_MAX, FLY_LOG, 0},
+                                        {&EXAMPLE_ORIGINS, UINT32_MAX, FLY_LOG, 0},
+                                        {&UP, UINT32_MAX, FLY_LOG, 0},
+                                        {&LIMITS, UINT32_MAX, FLY_LOG, 0},
+                                        {&LIMITS_ORIGINS, UINT32_MAX, FLY_LOG, 0}};
+    static const one_call SHORT_SEARCHES[] = {{&ITSELF, 11, 3, 0},
+                                              {&EXAMPLE, 57, 14, 0},
+                                              {&EXAMPLE_ORIGINS, UINT32_MAX, 15, FLY_SHORT_LOG},
+                                              {&LIMITS, ALL_BUT_ONE, FLY_LOG - 1, 0},
+                                              {&LIMITS, UINT32_MAX, FLY_LOG - 1, FLY_SHORT_LOG}};
     static const one_call STANDINGS[] = {{&CASE_1, 0, 8, 0},
                                          {&LIMITS, 511, FLY_LOG, 0},
                                          {&LIMITS, 511, FACTS, 0},
@@ -798,15 +904,17 @@ static void stack_use(void) {
                                       {&LIMITS_ORIGINS, 3, FLY_MAX_TWO, 0}};
     size_t run = stack_of("the run", run_call, FULL, 4, FLY_RUN_STACK);
     size_t short_log = stack_of("the short-log run", run_call, SHORT_LOGS, 7, FLY_SHORT_LOG_STACK);
+    size_t search = stack_of("the run in the well-founded reading", search_call, SEARCHES, 7, FLY_RUN_STACK);
+    size_t short_search = stack_of("the short-log run in the well-founded reading", search_call, SHORT_SEARCHES, 5, FLY_SHORT_LOG_STACK);
     size_t sheet = stack_of("the sheet", sheet_call, FULL, 2, FLY_SHEET_STACK);
     size_t standing = stack_of("the standing", stands_call, STANDINGS, 5, FLY_STANDS_STACK);
     size_t conversion = stack_of("the conversion", convert_call, CONVERSIONS, 5, FLY_CONVERT_STACK);
     size_t join = stack_of("the join", join_call, JOINS, 9, FLY_JOIN_STACK);
     size_t list = stack_of("the list of parts", parts_call, LISTS, 7, FLY_PARTS_STACK);
     size_t part = stack_of("the part", part_call, PARTED, 8, FLY_PART_STACK);
-    printf("stack: run %zu bytes, with a short log %zu bytes, sheet %zu bytes, standing %zu bytes, conversion %zu bytes, join %zu bytes, "
-           "list of parts %zu bytes, part %zu bytes\n",
-           run, short_log, sheet, standing, conversion, join, list, part);
+    printf("stack: run %zu bytes, with a short log %zu bytes, in the well-founded reading %zu and %zu bytes, sheet %zu bytes, "
+           "standing %zu bytes, conversion %zu bytes, join %zu bytes, list of parts %zu bytes, part %zu bytes\n",
+           run, short_log, search, short_search, sheet, standing, conversion, join, list, part);
 }
 #else
 static void stack_use(void) {}
@@ -828,6 +936,7 @@ int main(void) {
     runs(&CASE_1, 19, 0, 0, (fly_answer){FLY_SHORT_SCRATCH, 0, 0, 0, 0});
     runs(&LIMITS, FLY_MAX_SPENT, FLY_LOG, FLY_SCRATCH, ALL_LIMITS);
     short_logs();
+    well_founded();
     standings();
     refuses(&NOTHING, FLY_TRUNCATED);
     refuses(&STUB, FLY_TRUNCATED);

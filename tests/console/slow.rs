@@ -1,4 +1,4 @@
-//! A slow engine, written from document 01 and from S-1 to S-3 and S-5 to S-8 of document 02, sentence by sentence. The quoted lines are
+//! A slow engine, written from document 01 and from S-1 to S-3 and S-5 to S-9 of document 02, sentence by sentence. The quoted lines are
 //! the documents' own. What is held is a `Vec<bool>` indexed by the number of a line, and every inference rule is a direct quantification
 //! over rules and antecedents.
 
@@ -22,8 +22,39 @@ pub struct Answer {
     pub spent: u32,
 }
 
-/// An answer, and the lines in the order of the log.
-pub type Run = (Answer, Vec<u16>);
+/// The readings in the numbers of flyrules.h.
+pub const PLAIN: u32 = 0;
+pub const WELL_FOUNDED: u32 = 1;
+
+/// What a run is told beside its table.
+#[derive(Clone, Copy, Debug)]
+pub struct Terms {
+    pub reading: u32,
+    pub budget: u32,
+}
+
+pub fn plain(budget: u32) -> Terms {
+    Terms { reading: PLAIN, budget }
+}
+
+pub fn well_founded(budget: u32) -> Terms {
+    Terms { reading: WELL_FOUNDED, budget }
+}
+
+/// A search that was made: for −∂ or for −Δ, what was spent before it, and how many lines it added.
+#[derive(Clone, Copy)]
+pub struct Search {
+    pub partial: bool,
+    pub before: u32,
+    pub added: usize,
+}
+
+/// An answer, the lines in the order of the log, and the searches that were made.
+pub struct Run {
+    pub answer: Answer,
+    pub lines: Vec<u16>,
+    pub searches: Vec<Search>,
+}
 
 /// How a rule stands, in the two numbers of flyrules.h. With a refusal the second is 0.
 #[repr(C)]
@@ -384,86 +415,218 @@ impl Theory {
         price
     }
 
-    /// "The rule of working, and its price"
-    fn work(&self, budget: u32) -> Run {
-        let budget = budget as usize;
+    /// The largest set of literals in which each fits: all literals, and those that do not fit taken out, over and over. Whatever fits in a
+    /// set fits in a larger one, so no member of any such set is ever taken out.
+    fn largest(&self, fits: impl Fn(usize, &[bool]) -> bool) -> Vec<bool> {
+        let mut set = vec![true; 2 * self.a];
+        loop {
+            let misfits: Vec<usize> = (0..2 * self.a).filter(|&q| set[q] && !fits(q, &set)).collect();
+            if misfits.is_empty() {
+                return set;
+            }
+            misfits.iter().for_each(|&q| set[q] = false);
+        }
+    }
+
+    /// Does q fit in this set of the search for a tag, by the lines held?
+    fn fits(&self, held: &[bool], q: usize, tag: usize, set: &[bool]) -> bool {
+        let within = |r: usize| self.rules[r].body.iter().any(|&x| set[x]);
+        let unfounded = |r: usize| self.some(held, r, tag) || within(r);
+        if tag == MINUS_DELTA {
+            // Document 02, S-9: "the largest set of literals in which none is a fact and each strict rule for a member has an antecedent
+            // with −Δ or in the set"
+            let rules: Vec<usize> = if mutant(135) { self.supporters(q).collect() } else { self.strict_rules(q).collect() };
+            return (!self.fact[q] || mutant(134)) && rules.into_iter().all(unfounded);
+        }
+        // "the largest set whose members have −Δ and where, for each, the complement has +Δ, or a firing attacker is such that each
+        // supporter is out or not stronger, or each supporter has an antecedent with −∂ or in the set"
+        let fires = |s: usize| self.all(held, s, PLUS_PARTIAL);
+        let out = |t: usize| self.some(held, t, MINUS_PARTIAL) || mutant(131) && within(t);
+        let mut supporters = if mutant(136) { self.rules_for(q).collect() } else { self.supporters(q).collect::<Vec<_>>() };
+        if mutant(137) {
+            supporters.truncate(1);
+        }
+        (held[line(q, MINUS_DELTA)] || mutant(124))
+            && (held[line(complement(q), PLUS_DELTA)]
+                || self.attackers(q).any(|s| fires(s) && self.supporters(q).all(|t| out(t) || !self.stronger(t, s)))
+                || supporters.into_iter().all(unfounded))
+    }
+
+    /// The set of the search for a tag, by the lines held.
+    fn searched(&self, held: &[bool], tag: usize) -> Vec<bool> {
+        if mutant(127) {
+            // a set of one literal beside those with the tag
+            let with = |q: usize| (0..2 * self.a).map(|x| x == q || held[line(x, tag)]).collect::<Vec<_>>();
+            return (0..2 * self.a).map(|q| self.fits(held, q, tag, &with(q))).collect();
+        }
+        self.largest(|q, set| self.fits(held, q, tag, set))
+    }
+
+    /// "The rule of working, and its price", in a reading.
+    fn work(&self, terms: Terms) -> Run {
+        let mut run = Working::new(self, terms.budget);
         // "If Size exceeds it, the answer is stopped with 0 lines, 0 worked, 0 spent."
-        if self.size > budget {
-            return (Answer::default(), vec![]);
-        }
-        // "Opening costs Size and writes every line that follows from nothing, by literal, then tag."
-        let mut spent = self.size;
-        if mutant(11) {
-            spent += (0..self.rules.len()).filter(|&r| self.rules[r].body.is_empty()).map(|r| self.pairs_naming(r)).sum::<usize>();
-        }
-        let mut held = vec![false; 8 * self.a]; // the worked lines
-        let mut written = vec![false; 8 * self.a]; // the lines in the log
-        let mut log: Vec<usize> = vec![];
-        for q in 0..2 * self.a {
-            for tag in 0..4 {
-                if self.follows(&held, q, tag) {
-                    log.push(line(q, tag));
-                }
+        let finished = self.size <= run.budget && {
+            run.open();
+            match terms.reading {
+                WELL_FOUNDED if !mutant(130) => run.well_founded(),
+                _ => run.all_worked(),
             }
-        }
-        for &l in &log {
-            written[l] = true;
-        }
-        // "Lines are worked in log order."
-        let mut worked = 0;
-        let mut finished = true;
-        while worked < log.len() {
-            let l = log[worked];
-            let (p, tag) = (l / 4, l % 4);
-            let visited = self.visited(p, tag);
-            let mut after = held.clone();
-            after[l] = true;
-            // "a line is worked if its price fits what is left; the first that doesn't stops the run. All worked: finished."
-            let price = self.price(tag, &visited, &held, &after);
-            if spent + price > budget {
-                finished = false;
-                break;
-            }
-            spent += price;
-            worked += 1;
-            held = after;
-            // "Working a line about p takes as candidates p, its complement, then, by rule number, the head and head's complement of
-            // each visited rule."
-            let mut candidates = vec![p, complement(p)];
-            for &r in &visited {
-                candidates.extend([self.rules[r].head, complement(self.rules[r].head)]);
-            }
-            if mutant(3) {
-                candidates[2..].reverse();
-            }
-            // "For each candidate, tags 0 to 3 in order, a line is written if it follows from the worked lines, this one included,
-            // and isn't in the log yet." The worked lines stay the same meanwhile: a candidate met again gives nothing new.
-            let mut tried = vec![false; 2 * self.a];
-            for q in candidates {
-                if tried[q] {
-                    continue;
-                }
-                tried[q] = true;
-                for tag in 0..4 {
-                    let new = line(q, tag);
-                    let from: &[bool] = if mutant(10) { &written } else { &held };
-                    if !written[new] && self.follows(from, q, tag) {
-                        written[new] = true;
-                        log.push(new);
-                    }
-                }
-            }
-        }
+        };
         // "The answer gives lines, worked, spent: how many lines were written, how many of them were worked, and, once the opening is
-        // paid, Size plus the price of each line worked."
+        // paid, Size plus the price of each line worked." Document 02, S-9: "Each search costs Size, which spent then includes".
         let answer = Answer {
             refused: 0,
             finished: finished as u32,
-            lines: log.len() as u32,
-            worked: worked as u32,
-            spent: spent as u32,
+            lines: run.log.len() as u32,
+            worked: run.worked as u32,
+            spent: run.spent as u32,
         };
-        (answer, log.into_iter().map(|l| l as u16).collect())
+        Run { answer, lines: run.log.into_iter().map(|l| l as u16).collect(), searches: run.searches }
+    }
+}
+
+/// A run, as far as it has come.
+struct Working<'a> {
+    theory: &'a Theory,
+    budget: usize,
+    held: Vec<bool>,    // the worked lines
+    written: Vec<bool>, // the lines in the log
+    log: Vec<usize>,
+    worked: usize,
+    spent: usize,
+    searches: Vec<Search>,
+}
+
+impl<'a> Working<'a> {
+    fn new(theory: &'a Theory, budget: u32) -> Self {
+        let (held, written) = (vec![false; 8 * theory.a], vec![false; 8 * theory.a]);
+        Working { theory, budget: budget as usize, held, written, log: vec![], worked: 0, spent: 0, searches: vec![] }
+    }
+
+    fn write(&mut self, l: usize) {
+        self.written[l] = true;
+        self.log.push(l);
+    }
+
+    /// "Opening costs Size and writes every line that follows from nothing, by literal, then tag."
+    fn open(&mut self) {
+        let theory = self.theory;
+        self.spent = theory.size;
+        if mutant(11) {
+            let bodiless = (0..theory.rules.len()).filter(|&r| theory.rules[r].body.is_empty());
+            self.spent += bodiless.map(|r| theory.pairs_naming(r)).sum::<usize>();
+        }
+        for q in 0..2 * theory.a {
+            for tag in 0..4 {
+                if theory.follows(&self.held, q, tag) {
+                    self.write(line(q, tag));
+                }
+            }
+        }
+    }
+
+    /// "Lines are worked in log order." Whether all are, in the end: "a line is worked if its price fits what is left; the first that
+    /// doesn't stops the run. All worked: finished."
+    fn all_worked(&mut self) -> bool {
+        while self.worked < self.log.len() {
+            if !self.next_worked() {
+                return false;
+            }
+        }
+        true
+    }
+
+    fn next_worked(&mut self) -> bool {
+        let (theory, l) = (self.theory, self.log[self.worked]);
+        let (p, tag) = (l / 4, l % 4);
+        let visited = theory.visited(p, tag);
+        let mut after = self.held.clone();
+        after[l] = true;
+        let price = theory.price(tag, &visited, &self.held, &after);
+        if self.spent + price > self.budget {
+            return false;
+        }
+        self.spent += price;
+        self.worked += 1;
+        self.held = after;
+        // "Working a line about p takes as candidates p, its complement, then, by rule number, the head and head's complement of
+        // each visited rule."
+        let mut candidates = vec![p, complement(p)];
+        for &r in &visited {
+            candidates.extend([theory.rules[r].head, complement(theory.rules[r].head)]);
+        }
+        if mutant(3) {
+            candidates[2..].reverse();
+        }
+        // "For each candidate, tags 0 to 3 in order, a line is written if it follows from the worked lines, this one included,
+        // and isn't in the log yet." The worked lines stay the same meanwhile: a candidate met again gives nothing new.
+        let mut tried = vec![false; 2 * theory.a];
+        for q in candidates {
+            if tried[q] {
+                continue;
+            }
+            tried[q] = true;
+            for tag in 0..4 {
+                let new = line(q, tag);
+                let from: &[bool] = if mutant(10) { &self.written } else { &self.held };
+                if !self.written[new] && theory.follows(from, q, tag) {
+                    self.write(new);
+                }
+            }
+        }
+        true
+    }
+
+    /// Document 02, S-9: "When no line is left to work, search [for −Δ]. If that adds nothing, search [for −∂]. New lines go by literal and
+    /// are worked as usual." Whether it finishes: "exactly if the budget covered the opening, each line written was worked, and both searches
+    /// were then made and added nothing".
+    fn well_founded(&mut self) -> bool {
+        let tags = if mutant(122) { [MINUS_PARTIAL, MINUS_DELTA] } else { [MINUS_DELTA, MINUS_PARTIAL] };
+        loop {
+            if !self.all_worked() {
+                return false;
+            }
+            // "Each search .. is begun only if that fits; else the run stops."
+            let Some(mut added) = self.search(tags[0]) else { return mutant(128) };
+            if added == 0 || mutant(139) {
+                if mutant(125) && added == 0 {
+                    return true;
+                }
+                let Some(more) = self.search(tags[1]) else { return mutant(128) };
+                added += more;
+            }
+            if added == 0 {
+                return true;
+            }
+        }
+    }
+
+    /// The search for a tag, if Size fits what is left: "write [the tag] for members lacking it". How many lines it adds.
+    fn search(&mut self, tag: usize) -> Option<usize> {
+        if mutant(129) && tag == MINUS_DELTA && !self.searches.is_empty() {
+            return Some(0);
+        }
+        let (theory, before) = (self.theory, self.spent);
+        let price = match () {
+            _ if mutant(123) => 0,
+            _ if mutant(140) && tag == MINUS_PARTIAL => 0,
+            _ => theory.size,
+        };
+        let left = self.budget.saturating_sub(before);
+        if price > left && !mutant(126) || mutant(138) && price == left && price != 0 {
+            return None;
+        }
+        self.spent += price.min(left);
+        let set = theory.searched(&self.held, tag);
+        let members = (0..2 * theory.a).filter(|&q| set[q]);
+        let mut new: Vec<usize> = members.map(|q| line(q, tag)).filter(|&l| !self.written[l]).collect();
+        if mutant(132) {
+            new.reverse();
+        }
+        new.iter().for_each(|&l| self.write(l));
+        self.searches.push(Search { partial: tag == MINUS_PARTIAL, before: before as u32, added: new.len() });
+        Some(new.len())
     }
 }
 
@@ -471,18 +634,38 @@ fn refusal(number: u32) -> Answer {
     Answer { refused: number, ..Answer::default() }
 }
 
+/// What a run is refused by before anything is lent: a number that is no reading by 1, whatever the table (docs/DECISIONS.md), and then the
+/// table's refusal. 0 for none.
+fn judge_run(bytes: &[u8], edition: u32, reading: u32) -> u32 {
+    let (no_reading, judged) = (if reading > WELL_FOUNDED { 1 } else { 0 }, judge(bytes, edition));
+    first(&if mutant(145) { [judged, no_reading] } else { [no_reading, judged] })
+}
+
+/// The reading as a deliberate fault takes it; without one, as it is told.
+fn mistaken_reading(reading: u32) -> u32 {
+    match () {
+        _ if mutant(141) && reading > WELL_FOUNDED => PLAIN,
+        _ if mutant(142) && reading > WELL_FOUNDED => WELL_FOUNDED,
+        _ if mutant(143) => reading % 256,
+        _ if mutant(144) => reading % 65_536,
+        _ => reading,
+    }
+}
+
 /// The run, whatever is lent: refusals 1 to 7, then the work. "A refusal returns its number alone".
-pub fn run(bytes: &[u8], edition: u32, budget: u32) -> Run {
-    match judge(bytes, edition) {
-        0 => theory(bytes, edition).work(budget),
-        number => (refusal(number), vec![]),
+pub fn run(bytes: &[u8], edition: u32, terms: Terms) -> Run {
+    let terms = Terms { reading: mistaken_reading(terms.reading), ..terms };
+    match judge_run(bytes, edition, terms.reading) {
+        0 => theory(bytes, edition).work(terms),
+        number => Run { answer: refusal(number), lines: vec![], searches: vec![] },
     }
 }
 
 /// The answer of a call whose run is this one: 8 and 9 come after 1 to 7.
-pub fn call(bytes: &[u8], edition: u32, (answer, lines): &Run, log_len: usize, scratch_len: usize) -> Answer {
+pub fn call(bytes: &[u8], edition: u32, terms: Terms, of: &Run, log_len: usize, scratch_len: usize) -> Answer {
+    let answer = of.answer;
     if answer.refused != 0 {
-        return *answer;
+        return answer;
     }
     // Document 02, S-2: "A log shorter than 4A words is accepted if it holds all lines written by the end of the run under the given
     // budget. Otherwise 9 is given as before". One of 4A words holds every line that there can be.
@@ -491,9 +674,11 @@ pub fn call(bytes: &[u8], edition: u32, (answer, lines): &Run, log_len: usize, s
     } else if mutant(22) {
         answer.worked as usize
     } else if mutant(23) {
-        theory(bytes, edition).work(u32::MAX).1.len()
+        run(bytes, edition, Terms { budget: u32::MAX, ..terms }).lines.len()
+    } else if mutant(133) {
+        run(bytes, edition, plain(terms.budget)).lines.len()
     } else {
-        lines.len()
+        of.lines.len()
     };
     let too_short = log_len < needed;
     // "8 scratch: lent scratch below 32,768 16-bit words"
@@ -503,7 +688,7 @@ pub fn call(bytes: &[u8], edition: u32, (answer, lines): &Run, log_len: usize, s
     if too_short {
         return refusal(9);
     }
-    *answer
+    answer
 }
 
 /// "The sheet": "reads standard input (at most 32,779 bytes, a longer input judged on those), runs with budget 5A+F+N+3B+3P, and
@@ -516,8 +701,9 @@ pub fn sheet(bytes: &[u8]) -> String {
         return format!("refused {number}\n");
     }
     let theory = theory(bytes, OLD);
-    let (answer, log) = theory.work(theory.bound as u32);
-    let has = |q: usize, tag: usize| log.contains(&(line(q, tag) as u16));
+    let bound = theory.bound as u32;
+    let Run { answer, lines, .. } = theory.work(if mutant(146) { well_founded(u32::MAX) } else { plain(bound) });
+    let has = |q: usize, tag: usize| lines.contains(&(line(q, tag) as u16));
     // Document 02, S-6: "every supporter .. has an antecedent with −∂"
     let silent = |q: usize| {
         let rules: Vec<usize> = if mutant(72) { theory.rules_for(q).collect() } else { theory.supporters(q).collect() };
@@ -960,8 +1146,23 @@ pub fn fires_and_is_out(bytes: &[u8], edition: u32, lines: &[u16]) -> bool {
     (0..theory.rules.len()).any(|r| theory.all(&held, r, PLUS_PARTIAL) && theory.some(&held, r, MINUS_PARTIAL))
 }
 
-/// The bound "5A+F+N+3B+3P" and Size of an accepted table, for choosing budgets.
-pub fn bound_and_size(bytes: &[u8], edition: u32) -> (u32, u32) {
+/// "no literal has a tag and its opposite": the first that has among these lines.
+pub fn with_opposites(a: usize, lines: &[u16]) -> Option<usize> {
+    let held = held(a, lines);
+    let both = |q: usize, plus: usize, minus: usize| held[line(q, plus)] && held[line(q, minus)];
+    (0..2 * a).find(|&q| both(q, PLUS_DELTA, MINUS_DELTA) || both(q, PLUS_PARTIAL, MINUS_PARTIAL))
+}
+
+/// "Every plain conclusion remains": the first line of a plain run that is not among these.
+pub fn lacking(a: usize, lines: &[u16], of_plain: &[u16]) -> Option<u16> {
+    let held = held(a, lines);
+    of_plain.iter().copied().find(|&l| !held[l as usize])
+}
+
+/// The bound of a reading and Size, of an accepted table, for choosing budgets. "Spent never exceeds 5A+F+N+3B+3P"; document 02, S-9: "Spent
+/// is at most 5A+F+N+3B+3P + (6A+2) × Size; that budget finishes here".
+pub fn bound_and_size(bytes: &[u8], edition: u32, reading: u32) -> (u32, u32) {
     let t = theory(bytes, edition);
-    (t.bound as u32, t.size as u32)
+    let more = if reading == WELL_FOUNDED { (6 * t.a + 2) * t.size } else { 0 };
+    ((t.bound + more) as u32, t.size as u32)
 }

@@ -776,6 +776,98 @@ pub fn large_scattered(r: &mut Rng, most: usize) -> Draft {
     d.done(r)
 }
 
+/// Rings of rules that nothing feeds, or hardly anything; rules that rest on them, and others beside them.
+fn unfounded(r: &mut Rng) -> Draft {
+    let a = r.within(1, 7);
+    let (mut d, strict) = (Draft::atoms(a), r.pick(&[0, 1, 3, 6]));
+    for _ in 0..r.within(1, 4) {
+        let ring: Vec<usize> = (0..r.within(1, 4)).map(|_| r.below(2 * a)).collect();
+        for i in 0..ring.len() {
+            let (k, more) = (if r.chance(strict, 6) { 0 } else { 1 }, r.pick(&ring));
+            let body = if r.chance(1, 5) { vec![ring[i], more] } else { vec![ring[i]] };
+            d.rule(k, ring[(i + 1) % ring.len()], &body);
+        }
+        for _ in 0..r.below(3) {
+            let (k, head, from) = (r.below(3), r.below(2 * a), r.pick(&ring));
+            d.rule(k, head, &[from]);
+        }
+        if r.chance(1, 2) {
+            let (k, any) = (r.within(1, 2), r.below(2 * a));
+            d.rule(k, r.pick(&[ring[0] ^ 1, any]), &[]);
+        }
+        if r.chance(1, 8) {
+            d.fact(r.below(2 * a));
+        }
+    }
+    let (x, y) = (r.pick(&[0, 4, 8, 12]), r.pick(&[0, 0, 1]));
+    d.all_pairs(r, x, y);
+    d
+}
+
+/// Steps of which each waits for the one before: x ⇒ x, ¬y of the step before ⇒ x; a: ⇒ y, b: x ⇒ ¬y and c: ⇒ ¬y, with a over c and b over a.
+/// Until x has −∂ no more is known of y, so each search gives −∂ to the x of one step. Atoms and rules in any order; perhaps a rule or a pair
+/// is missing.
+fn steps(r: &mut Rng, count: usize, whole: bool) -> Draft {
+    let literals: Vec<usize> = r.order(2 * count).into_iter().map(|a| 2 * a + r.below(2)).collect();
+    let (mut rules, mut pairs): (Vec<(usize, Vec<usize>)>, Vec<(usize, usize)>) = (vec![], vec![]);
+    for k in 0..count {
+        let (x, y, first) = (literals[2 * k], literals[2 * k + 1], rules.len());
+        rules.extend([(y, vec![]), (y ^ 1, vec![x]), (y ^ 1, vec![]), (x, vec![x])]);
+        if k > 0 {
+            rules.push((x, vec![literals[2 * k - 1] ^ 1]));
+        }
+        pairs.extend([(first, first + 2), (first + 1, first)]);
+    }
+    let mut d = Draft::atoms(2 * count);
+    let (missing, cut) = (r.below(3 * rules.len()), r.below(3 * pairs.len()));
+    let kept: Vec<usize> = r.order(rules.len()).into_iter().filter(|&i| whole || i != missing).collect();
+    for &i in &kept {
+        d.rule(1, rules[i].0, &rules[i].1);
+    }
+    let number = |i: usize| kept.iter().position(|&j| j == i);
+    for (_, &(t, s)) in pairs.iter().enumerate().filter(|&(i, _)| whole || i != cut) {
+        if let (Some(t), Some(s)) = (number(t), number(s)) {
+            d.pair(t, s);
+        }
+    }
+    d
+}
+
+/// A small legal table for the searches.
+pub fn searched(r: &mut Rng) -> Draft {
+    let d = match r.below(8) {
+        0 | 1 | 2 => unfounded(r),
+        3 | 4 => {
+            let count = r.within(1, 4);
+            steps(r, count, false)
+        }
+        5 => loops(r),
+        6 => teams(r),
+        _ => random_small(r),
+    };
+    d.done(r)
+}
+
+/// A large one: as many steps as there can be, or fewer; rules of few literals each; or any.
+pub fn large_searched(r: &mut Rng) -> Draft {
+    let d = match r.below(4) {
+        0 => {
+            let count = r.within(100, 205);
+            steps(r, count, true)
+        }
+        1 | 2 => {
+            let (a, longest) = (r.within(60, 512), r.within(1, 2));
+            let n = r.within(a, LIMITS[2]);
+            let mut d = random(r, a, n, longest);
+            let count = r.below(LIMITS[4]);
+            d.some_pairs(r, count, 1);
+            d
+        }
+        _ => return large(r),
+    };
+    d.done(r)
+}
+
 pub const FAULTS: usize = 14;
 
 /// One fault in the sections. Not every fault makes the table illegal, and a fault in an empty section may do nothing.

@@ -18,7 +18,8 @@ use noise::SIZE;
 use parted::{list_differs, part_differs};
 use readers::readers_differ;
 use records::{
-    base_differs, body_differs, conversion_differs, made_differ, sheet_differs, told_differ,
+    base_differs, body_differs, conversion_differs, made_differ, readings_differ, searched_differs,
+    sheet_differs, told_differ,
 };
 use std::io::ErrorKind;
 use std::rt::Files;
@@ -84,6 +85,8 @@ fn main(rt: HostRuntime) -> io::Result<()> {
     try_file(&rt, "made.bin", made_differ)?;
     try_file(&rt, "short-logs.bin", made_differ)?;
     try_file(&rt, "told.bin", told_differ)?;
+    try_file(&rt, "well-founded.bin", searched_differs)?;
+    try_file(&rt, "readings.bin", readings_differ)?;
     try_file(
         &rt,
         "bodies.bin",

@@ -2,9 +2,10 @@
 use crate::difference::{Difference, What, differs, items_differ};
 use crate::noise::{SIZE, noise_byte};
 use crate::runs::{Run, run_differs};
-use crate::stream::Stream;
+use crate::stream::{Stream, Words};
 use convert::convert::convert;
 use engine::answer::Numbers;
+use engine::reading::Reading;
 use report::sheet::sheet_of;
 use std::array;
 use table::body::body;
@@ -27,6 +28,7 @@ pub fn base_differs(rest: &mut Stream, record: u32, table: &[u8]) -> Option<Diff
     };
     let want = Run {
         edition: Edition::Old,
+        reading: Reading::Plain,
         budget,
         log: 2051,
         scratch: 32773,
@@ -36,44 +38,77 @@ pub fn base_differs(rest: &mut Stream, record: u32, table: &[u8]) -> Option<Diff
     run_differs(record, table, want)
 }
 
+// 1 where the run finishes, and the counts.
+fn numbers(rest: &mut Stream, refused: u32) -> Numbers {
+    Numbers {
+        refused,
+        finished: rest.number(),
+        lines: rest.number(),
+        worked: rest.number(),
+        spent: rest.number(),
+    }
+}
+
+// The words of a log, behind the number of their bytes.
+fn log_words<'a>(rest: &mut Stream<'a>) -> Words<'a> {
+    let n = rest.long() / 2;
+    rest.words(n)
+}
+
 // The fields of a run, and the log.
 fn fields_differ(
     rest: &mut Stream,
     record: u32,
     table: &[u8],
     edition: Edition,
+    reading: Reading,
 ) -> Option<Difference> {
     let budget = rest.number();
     let log = rest.size();
     let scratch = rest.size();
-    let numbers = Numbers {
-        refused: rest.number(),
-        finished: rest.number(),
-        lines: rest.number(),
-        worked: rest.number(),
-        spent: rest.number(),
-    };
-    let n = rest.long() / 2;
+    let refused = rest.number();
     let want = Run {
         edition,
+        reading,
         budget,
         log,
         scratch,
-        numbers,
-        words: rest.words(n),
+        numbers: numbers(rest, refused),
+        words: log_words(rest),
     };
     run_differs(record, table, want)
 }
 
 // made.bin and short-logs.bin: a run of a table in the old layout.
 pub fn made_differ(rest: &mut Stream, record: u32, table: &[u8]) -> Option<Difference> {
-    fields_differ(rest, record, table, Edition::Old)
+    fields_differ(rest, record, table, Edition::Old, Reading::Plain)
 }
 
 // told.bin: the edition, and a run.
 pub fn told_differ(rest: &mut Stream, record: u32, table: &[u8]) -> Option<Difference> {
     let edition = rest.edition();
-    fields_differ(rest, record, table, edition)
+    fields_differ(rest, record, table, edition, Reading::Plain)
+}
+
+// readings.bin: the reading, the edition, and a run.
+pub fn readings_differ(rest: &mut Stream, record: u32, table: &[u8]) -> Option<Difference> {
+    let reading = rest.reading();
+    let edition = rest.edition();
+    fields_differ(rest, record, table, edition, reading)
+}
+
+// well-founded.bin: the budget; 1 where the run finishes, the counts, and the log. The buffers are long enough.
+pub fn searched_differs(rest: &mut Stream, record: u32, table: &[u8]) -> Option<Difference> {
+    let want = Run {
+        edition: Edition::Old,
+        reading: Reading::WellFounded,
+        budget: rest.number(),
+        log: 2051,
+        scratch: 32773,
+        numbers: numbers(rest, 0),
+        words: log_words(rest),
+    };
+    run_differs(record, table, want)
 }
 
 // The length, and then each byte, 0 past the end of what is wanted.

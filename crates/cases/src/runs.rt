@@ -5,16 +5,18 @@ use crate::difference::{Difference, What, differs, items_differ};
 use crate::noise::{SIZE, noise};
 use crate::stream::Words;
 use engine::answer::Numbers;
+use engine::reading::Reading;
 use engine::run::run;
 use std::array;
 use table::edition::Edition;
 use table::judge::judge;
 
-// A run: the edition, the budget and how many words of log and of scratch are borrowed; the numbers that must come out, and the words of
-// the log.
+// A run: the edition, the reading, the budget and how many words of log and of scratch are borrowed; the numbers that must come out, and the
+// words of the log.
 #[derive(Clone, Copy)]
 pub struct Run<'a> {
     pub edition: Edition,
+    pub reading: Reading,
     pub budget: u32,
     pub log: usize,
     pub scratch: usize,
@@ -62,9 +64,11 @@ pub fn run_differs(record: u32, table: &[u8], want: Run) -> Option<Difference> {
     let mut log: [u16; SIZE] = array::from_fn(|i| noise(log_seed, i));
     let mut scratch: [u16; SIZE] = array::from_fn(|i| noise(scratch_seed, i));
     let edition = want.edition;
+    let reading = want.reading;
     let answer = run(
         table,
         edition,
+        reading,
         want.budget,
         &mut log[..want.log],
         &mut scratch[..want.scratch],

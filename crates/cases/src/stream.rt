@@ -3,6 +3,7 @@
 ghost use Rattle.std.specs.Prelude.{◌≤◌, ◌<◌, length};
 
 use crate::noise::SIZE;
+use engine::reading::Reading;
 use std::io::Read;
 use table::edition::Edition;
 
@@ -79,6 +80,14 @@ impl<'a> Stream<'a> {
         match self.number() {
             1 => Edition::Old,
             _ => Edition::Two,
+        }
+    }
+
+    // A field that is the number of a reading.
+    pub fn reading(&mut self) -> Reading {
+        match self.number() {
+            0 => Reading::Plain,
+            _ => Reading::WellFounded,
         }
     }
 

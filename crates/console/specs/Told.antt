@@ -1,11 +1,13 @@
 -- Document 02, S-5: "each call is told the edition of each of its tables". In C it is told by its number, and what each call hands over is
--- that of the edition. Any other number is refused by 1, whatever the table, and writes nothing.
+-- that of the edition. Any other number is refused by 1, whatever the table, and writes nothing. A run is told its reading (S-9) likewise.
 use Rattle.std.specs.Prelude.{ℕ, zero, suc, ◌≡◌, Option, Some, None, List}
 use Rattle.table.specs.declared.edition.Edition.{Edition}
 use Rattle.table.specs.declared.edition.Edition.TheVariants.{Old, Two}
 use Rattle.table.specs.declared.judge.Refusal.TheVariants.{Truncated}
 use Rattle.table.specs.Format.{theory_of}
 use Rattle.table.specs.Refusals.{number_of, judgement_of}
+use Rattle.engine.specs.declared.reading.Reading.{Reading}
+use Rattle.engine.specs.declared.reading.Reading.TheVariants.{Plain, WellFounded}
 use Rattle.engine.specs.declared.answer.Numbers.{Numbers}
 use Rattle.engine.specs.Answers as run
 use Rattle.engine.specs.Answers.{Ran}
@@ -25,10 +27,21 @@ told_by (suc zero) = Some Old
 told_by (suc (suc zero)) = Some Two
 told_by (suc (suc (suc n))) = None
 
+-- 0 the plain reading, 1 the well-founded one (proofs/Telling.antt: `told_reading`)
+unfoldable pub reading_by : ℕ → Option Reading
+reading_by zero = Some Plain
+reading_by (suc zero) = Some WellFounded
+reading_by (suc (suc n)) = None
+
+-- no run: refused by 1, and both buffers are as they were
+abbrev pub NotRun : List ℕ → List ℕ → List ℕ → List ℕ → Numbers → Type 0
+NotRun log log' scratch scratch' n = (n ≡ run.refusal_numbers (number_of Truncated)) × (log' ≡ log) × (scratch' ≡ scratch)
+
 -- a run
-unfoldable pub RanTold : Option Edition → List ℕ → ℕ → List ℕ → List ℕ → List ℕ → List ℕ → Numbers → Type 0
-RanTold (Some e) b budget log log' scratch scratch' n = Ran (judgement_of e b) (theory_of e b) budget log log' scratch scratch' n
-RanTold None b budget log log' scratch scratch' n = (n ≡ run.refusal_numbers (number_of Truncated)) × (log' ≡ log) × (scratch' ≡ scratch)
+unfoldable pub RanTold : Option Edition → Option Reading → List ℕ → ℕ → List ℕ → List ℕ → List ℕ → List ℕ → Numbers → Type 0
+RanTold (Some e) (Some m) b budget log log' scratch scratch' n = Ran m (judgement_of e b) (theory_of e b) budget log log' scratch scratch' n
+RanTold (Some e) None b budget log log' scratch scratch' n = NotRun log log' scratch scratch' n
+RanTold None r b budget log log' scratch scratch' n = NotRun log log' scratch scratch' n
 
 -- how a rule stands
 unfoldable pub standing_told : Option Edition → List ℕ → ℕ → List ℕ → StandingNumbers

@@ -1,5 +1,5 @@
 // The functions that a console written in C calls (include/flyrules.h), on numbers and slices alone; crate console_c exports them. Each calls
-// one proved function in the edition that it is told, whose contract is handed on whole.
+// one proved function in the edition that it is told, and a run in the reading that it is told; the contract of that function is handed on whole.
 // Each is a `match`: a closure that is not called, as by `and_then` on None, would have to say that the output which it holds is untouched.
 #![tactic(auto)]
 
@@ -9,7 +9,7 @@ ghost use Rattle.std.specs.Prelude.{◌≡◌, Err};
 ghost use Rattle.table.specs.declared.judge.Refusal.TheVariants.{Truncated};
 ghost use Rattle.writing.specs.Answers.{numbers_of};
 ghost use Rattle.report.specs.Sheet.{Printed};
-ghost use Rattle.console.specs.Told.{told_by, RanTold, standing_told, ConvertedTold, JoinedTold, PartedTold, ListedTold};
+ghost use Rattle.console.specs.Told.{told_by, reading_by, RanTold, standing_told, ConvertedTold, JoinedTold, PartedTold, ListedTold};
 
 use convert::convert::convert;
 use engine::answer::{Answer, Numbers};
@@ -22,21 +22,22 @@ use report::sheet::sheet_of;
 use standing::answer::StandingNumbers;
 use standing::stands::stands;
 use table::judge::Refusal;
-use told::told_by;
+use told::{reading_by, told_by};
 use writing::answer::WrittenNumbers;
 
 pub fn fly_run(
     table: &[u8],
     edition: u32,
+    reading: u32,
     budget: u32,
     log: &mut [u16],
     scratch: &mut [u16],
 ) -> Numbers
-    ensures { RanTold (told_by edition) table.now budget log.old log.new scratch.old scratch.new result }
+    ensures { RanTold (told_by edition) (reading_by reading) table.now budget log.old log.new scratch.old scratch.new result }
 {
-    match told_by(edition) {
-        Some(e) => Numbers::from(run(table, e, budget, log, scratch)),
-        None => Numbers::from(Answer::Refused(Refusal::Truncated)),
+    match (told_by(edition), reading_by(reading)) {
+        (Some(e), Some(m)) => Numbers::from(run(table, e, m, budget, log, scratch)),
+        _ => Numbers::from(Answer::Refused(Refusal::Truncated)),
     }
 }
 

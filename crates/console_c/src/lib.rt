@@ -4,7 +4,7 @@
 
 ghost use Rattle.std.specs.Prelude.{◌≡◌};
 ghost use Rattle.report.specs.Sheet.{Printed};
-ghost use Rattle.console.specs.Told.{told_by, RanTold, standing_told, ConvertedTold, JoinedTold, PartedTold, ListedTold};
+ghost use Rattle.console.specs.Told.{told_by, reading_by, RanTold, standing_told, ConvertedTold, JoinedTold, PartedTold, ListedTold};
 
 use engine::answer::Numbers;
 use standing::answer::StandingNumbers;
@@ -14,13 +14,14 @@ use writing::answer::WrittenNumbers;
 pub extern "C" fn fly_run(
     table: &[u8],
     edition: u32,
+    reading: u32,
     budget: u32,
     log: &mut [u16],
     scratch: &mut [u16],
 ) -> Numbers
-    ensures { RanTold (told_by edition) table.now budget log.old log.new scratch.old scratch.new result }
+    ensures { RanTold (told_by edition) (reading_by reading) table.now budget log.old log.new scratch.old scratch.new result }
 {
-    console::fly_run(table, edition, budget, log, scratch)
+    console::fly_run(table, edition, reading, budget, log, scratch)
 }
 
 #[unsafe(no_mangle)]

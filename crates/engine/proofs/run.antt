@@ -5,4 +5,5 @@ pub mod Users
 pub mod Opening
 pub mod Tallies
 pub mod Worklist
+pub mod Rounds
 pub mod Answering

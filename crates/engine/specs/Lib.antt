@@ -1,3 +1,4 @@
+pub mod Readings
 pub mod Answers
 pub mod Working
 pub mod Tallies

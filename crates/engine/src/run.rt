@@ -1,18 +1,18 @@
-// The run of a table under a budget, in buffers that the caller lends. What is refused writes nothing. Past the judgement a table is its
+// The run of a table in a reading, under a budget, in buffers that the caller lends. What is refused writes nothing. Past the judgement a table is its
 // layout, here and in every other file of this crate: editions end in `run`.
 ghost use Rattle.std.specs.Prelude.{◌+◌, ◌*◌, ◌≤◌, ◌≡◌, length, Ok};
-ghost use Rattle.logic.specs.Worklist as worklist;
-ghost use Rattle.logic.specs.Plain.{plain_system};
 ghost use Rattle.table.specs.Format.{theory_of};
 ghost use Rattle.table.specs.Refusals.{judgement_of};
 ghost use Rattle.table.specs.Tables.{theory_said};
 ghost use Rattle.engine.specs.declared.answer.Answer.TheVariants.{Refused};
+ghost use Rattle.engine.specs.Readings.{run_of};
 ghost use Rattle.engine.specs.Answers.{numbers_of, Ran};
 ghost use Rattle.engine.specs.Working.{Paid, Worked};
 ghost use Rattle.memory.specs.Layout.{tag_count, memory_size};
 
 use crate::answer::{Answer, Counts, Numbers};
 use crate::lines::Lines;
+use crate::reading::Reading;
 use memory::layout::MEMORY_SIZE;
 use memory::prepare::{clear, prepare};
 use table::accepted::Table;
@@ -24,10 +24,11 @@ use values::copy_words;
 // The words of scratch that a run needs.
 pub const SCRATCH: usize = MEMORY_SIZE;
 
-// A run of a table under a budget that its start fits.
+// A run of a table in a reading, under a budget that its start fits.
 #[derive(Clone, Copy)]
 struct PaidRun<'a> {
     table: Table<'a>,
+    reading: Reading,
     budget: u32,
     start: u32,
     ghost paid: { Paid table budget start },
@@ -52,7 +53,7 @@ fn refuse(why: Refusal, log: &mut [u16], scratch: &mut [u16]) -> Answer
 // contract would also have to say that both references stay in it.
 fn run_started(run: PaidRun, log: &mut [u16], scratch: &mut [u16]) -> Answer
     requires { (memory_size ≤ length scratch.old) × (tag_count * run.table.sizes.atoms ≤ length log.old) }
-    ensures { Worked (worklist.run (plain_system (theory_said run.entry.table)) run.entry.budget) scratch.old log.old scratch.new log.new result }
+    ensures { Worked (run_of run.entry.reading (theory_said run.entry.table) run.entry.budget) scratch.old log.old scratch.new log.new result }
 {
     prepare(run.table, scratch);
     let mut lines = Lines {
@@ -62,7 +63,7 @@ fn run_started(run: PaidRun, log: &mut [u16], scratch: &mut [u16]) -> Answer
         count: 0,
     };
     lines.write_initial();
-    lines.work(run.budget, run.start)
+    lines.work(run.reading, run.budget, run.start)
 }
 
 // A run in a draft, whose lines are copied: whether the log has a word for each is known at the end, and what is refused writes nothing.
@@ -74,7 +75,7 @@ fn run_copied(
     mem: &mut [u16],
 ) -> Answer
     requires { (memory_size ≤ length scratch.old) × (memory_size ≤ length mem.old) × (tag_count * run.table.sizes.atoms ≤ length draft.old) }
-    ensures { Ran (Ok run.entry.table.sizes) (theory_said run.entry.table) run.entry.budget log.old log.new scratch.old scratch.new (numbers_of result) }
+    ensures { Ran run.entry.reading (Ok run.entry.table.sizes) (theory_said run.entry.table) run.entry.budget log.old log.new scratch.old scratch.new (numbers_of result) }
 {
     let answer = run_started(run, draft, mem);
     let lines = Numbers::from(answer).lines as usize;
@@ -90,7 +91,7 @@ fn run_copied(
 #[inline(never)]
 fn run_apart(run: PaidRun, log: &mut [u16], scratch: &mut [u16]) -> Answer
     requires { memory_size ≤ length scratch.old }
-    ensures { Ran (Ok run.entry.table.sizes) (theory_said run.entry.table) run.entry.budget log.old log.new scratch.old scratch.new (numbers_of result) }
+    ensures { Ran run.entry.reading (Ok run.entry.table.sizes) (theory_said run.entry.table) run.entry.budget log.old log.new scratch.old scratch.new (numbers_of result) }
 {
     let mut draft = [0u16; 4 * Sizes::MAX_ATOMS as usize];
     let mut mem = [0u16; SCRATCH];
@@ -100,7 +101,7 @@ fn run_apart(run: PaidRun, log: &mut [u16], scratch: &mut [u16]) -> Answer
 // A run in a short log (document 02, S-2). Of a longer scratch only the words that are to be cleared are lent. For that it calls itself.
 fn run_short(run: PaidRun, log: &mut [u16], scratch: &mut [u16]) -> Answer
     requires { memory_size ≤ length scratch.old }
-    ensures { Ran (Ok run.entry.table.sizes) (theory_said run.entry.table) run.entry.budget log.old log.new scratch.old scratch.new (numbers_of result) }
+    ensures { Ran run.entry.reading (Ok run.entry.table.sizes) (theory_said run.entry.table) run.entry.budget log.old log.new scratch.old scratch.new (numbers_of result) }
 {
     if SCRATCH < scratch.len() {
         return run_short(run, log, &mut scratch[0..SCRATCH]);
@@ -109,8 +110,14 @@ fn run_short(run: PaidRun, log: &mut [u16], scratch: &mut [u16]) -> Answer
 }
 
 // The run of an accepted table. It leaves the scratch cleared.
-fn run_accepted(table: Table, budget: u32, log: &mut [u16], scratch: &mut [u16]) -> Answer
-    ensures { Ran (Ok table.entry.sizes) (theory_said table.entry) budget log.old log.new scratch.old scratch.new (numbers_of result) }
+fn run_accepted(
+    table: Table,
+    reading: Reading,
+    budget: u32,
+    log: &mut [u16],
+    scratch: &mut [u16],
+) -> Answer
+    ensures { Ran reading (Ok table.entry.sizes) (theory_said table.entry) budget log.old log.new scratch.old scratch.new (numbers_of result) }
 {
     if scratch.len() < SCRATCH {
         return refuse(Refusal::ShortScratch, log, scratch);
@@ -126,6 +133,7 @@ fn run_accepted(table: Table, budget: u32, log: &mut [u16], scratch: &mut [u16])
     }
     let run = PaidRun {
         table,
+        reading,
         budget,
         start: size,
     };
@@ -141,14 +149,15 @@ fn run_accepted(table: Table, budget: u32, log: &mut [u16], scratch: &mut [u16])
 pub fn run(
     table: &[u8],
     edition: Edition,
+    reading: Reading,
     budget: u32,
     log: &mut [u16],
     scratch: &mut [u16],
 ) -> Answer
-    ensures { Ran (judgement_of edition table.now) (theory_of edition table.now) budget log.old log.new scratch.old scratch.new (numbers_of result) }
+    ensures { Ran reading (judgement_of edition table.now) (theory_of edition table.now) budget log.old log.new scratch.old scratch.new (numbers_of result) }
 {
     match Table::read(table, edition) {
-        Ok(table) => run_accepted(table, budget, log, scratch),
+        Ok(table) => run_accepted(table, reading, budget, log, scratch),
         Err(why) => refuse(why, log, scratch),
     }
 }

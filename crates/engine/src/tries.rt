@@ -1,15 +1,14 @@
 // Conclusions are tried: what follows from what is processed, and is not written, is written at the end of the log. A tag is a number here
 // too: a conclusion is four times its literal and the tag (document 01).
-ghost use Rattle.std.specs.Prelude.{◌+◌, ◌*◌, ◌%◌, ◌<◌, ◌≡◌, true, false, [], ◌∷◌, eqb};
+ghost use Rattle.std.specs.Prelude.{◌+◌, ◌*◌, ◌%◌, ◌<◌, ◌≡◌, false, [], ◌∷◌, eqb};
 ghost use Rattle.logic.specs.Tests.{◌or◌, isnt};
 ghost use Rattle.logic.specs.Theory.{complement};
-ghost use Rattle.logic.specs.Plain.{plain_system};
 ghost use Rattle.logic.specs.Reading.{heads, visited, with_tags};
 ghost use Rattle.table.specs.Tables.{theory_said};
 ghost use Rattle.memory.specs.Layout.{tag_count};
-ghost use Rattle.memory.specs.Memory.{held_of, written_of};
+ghost use Rattle.memory.specs.Memory.{written_of};
 ghost use Rattle.memory.specs.Api.{UsesAt};
-ghost use Rattle.engine.specs.Working.{Logged, Tried, heads_if, family_if};
+ghost use Rattle.engine.specs.Working.{Logged, Yielded, Appended, heads_if, family_if};
 ghost use Rattle.engine.specs.Lines.{TriedIn, Lent};
 
 use crate::lines::Lines;
@@ -27,11 +26,11 @@ fn visits(definite: bool, strict: bool) -> bool
     !definite || strict
 }
 
-// A conclusion that follows is marked in the memory, and goes to the end of the log. It takes the fields of `Lines`, of which the ghost field
-// does not hold in between.
-fn write_line(table: Table, mem: &mut [u16], log: &mut [u16], count: &mut u32, x: u16)
-    requires { Logged (theory_said table) mem.old log.old count.old × (x < tag_count * (2 * table.sizes.atoms)) × (written_of mem.old x ≡ false) × ((plain_system (theory_said table)).infers (held_of mem.old) x ≡ true) }
-    ensures { Tried (theory_said table.entry) (x ∷ []) mem.old log.old count.old mem.new log.new count.new }
+// A conclusion that the lines yield is marked in the memory, and goes to the end of the log. It takes the fields of `Lines`, of which the ghost
+// field does not hold in between.
+pub fn write_line(table: Table, mem: &mut [u16], log: &mut [u16], count: &mut u32, x: u16)
+    requires { Logged (theory_said table) mem.old log.old count.old × (x < tag_count * (2 * table.sizes.atoms)) × (written_of mem.old x ≡ false) × Yielded (theory_said table) log.old count.old x }
+    ensures { Appended (theory_said table.entry) x mem.old log.old count.old mem.new log.new count.new }
 {
     write(table.layout, table.sizes, mem, x);
     log[*count as usize] = x;

@@ -12,16 +12,17 @@ use lib.Seq.{get_or-append-add}
 use Rattle.logic.specs.Tests.{member}
 use Rattle.logic.specs.Theory.{Theory, complement, can_support, kind_of, head_of, body_of, supporter, attacker, superior, proper}
 use Rattle.logic.specs.Inference.{−Δ, +∂, all_have, follows}
-use Rattle.logic.specs.Worklist.{run, log_of}
+use Rattle.logic.specs.Worklist.{log_of}
 use Rattle.logic.specs.Reading.{conclusion, system_of}
-use Rattle.logic.specs.Plain.{plain, plain_system}
+use Rattle.logic.specs.Plain.{plain, plain_system, no_searches, plain_run}
 use Rattle.logic.specs.Laws.{logged}
-use Rattle.logic.proofs.Tests.{at_most, eq→eqb, and_intro, or_right, implies_intro, every_intro, some_intro, every_of_intro, every_of_elim}
+use Rattle.logic.proofs.Tests.{at_most, eq→eqb, and_intro, or_left, or_right, implies_intro, every_intro, some_intro, every_of_intro, every_of_elim}
 use Rattle.logic.proofs.Lists.{member_last}
 use Rattle.logic.proofs.Literals.{join_div, join_mod, join_below}
 use Rattle.logic.proofs.Theories.{heads_below}
 use Rattle.logic.proofs.Derivations.{derivation_snoc}
-use Rattle.logic.proofs.Plain.{attacker_head, plain_demands}
+use Rattle.logic.proofs.Inference.{attacker_head}
+use Rattle.logic.proofs.Plain.{plain_demands}
 use Rattle.table.specs.Format.{kind_meant}
 use Rattle.files.specs.Contents.{Content, rule_of, entry_of, later_entry, theory_from}
 use Rattle.std.proofs.lemmas.List.{get_or-map}
@@ -33,16 +34,16 @@ use Rattle.joining.proofs.Pairing.{superior_listed}
 use Rattle.joining.proofs.Rows.{added_in}
 
 -- what follows from the log of a finished plain run is in it
-finished_holds : (d : Theory) → T (proper d) → (budget q t : ℕ) → T (run (plain_system d) budget).finished → q < 2 * d.atoms → t < 4
+finished_holds : (d : Theory) → T (proper d) → (budget q t : ℕ) → T (plain_run d budget).finished → q < 2 * d.atoms → t < 4
     → T (follows d (logged plain d budget) q t) → T (logged plain d budget q t)
 unfolding system_of
 finished_holds d p budget q t f b h u =
-    let l : List ℕ = log_of (run (plain_system d) budget) in
+    let l : List ℕ = log_of (plain_run d budget) in
     let x : ℕ = conclusion 4 q t in
     ((plain_demands d p budget).exact f x).1 (
       l ++ (x ∷ []),
-      derivation_snoc (plain_system d) l x (plain_demands d p budget).is_derivation (join_below 4 (2 * d.atoms) q t h b)
-          (subst T (ap₂ (follows d (logged plain d budget)) (sym (join_div 4 q t h)) (sym (join_mod 4 q t h))) u),
+      derivation_snoc (plain_system d) (no_searches d) l x (plain_demands d p budget).is_derivation (join_below 4 (2 * d.atoms) q t h b)
+          (or_left _ _ (subst T (ap₂ (follows d (logged plain d budget)) (sym (join_div 4 q t h)) (sym (join_mod 4 q t h))) u)),
       member_last l x,
     )
 

@@ -3,8 +3,7 @@ use Rattle.std.specs.Prelude.{ℕ, ◌<◌, ◌≡◌, List, T, Ok}
 use Rattle.logic.specs.Theory.{Theory, can_support, kind_of, head_of, complement, attacker, superior}
 use Rattle.logic.specs.Cycle.{Cycle}
 use Rattle.logic.specs.Inference.{−Δ, +∂, all_have}
-use Rattle.logic.specs.Plain.{plain, plain_system}
-use Rattle.logic.specs.Worklist.{run}
+use Rattle.logic.specs.Plain.{plain, plain_run}
 use Rattle.logic.specs.Laws.{logged}
 use Rattle.table.specs.declared.edition.Edition.{Edition}
 use Rattle.table.specs.Format.{theory_of}
@@ -16,7 +15,7 @@ use Rattle.joining.specs.Joining.{joined}
 -- complement has −Δ.": r is a rule of the house, and the run is that of d
 abbrev pub Prevails : Theory → Theory → Type 0
 Prevails house d =
-    (budget r : ℕ) → T (run (plain_system d) budget).finished → r < house.rules → T (can_support (kind_of house r))
+    (budget r : ℕ) → T (plain_run d budget).finished → r < house.rules → T (can_support (kind_of house r))
     → T (all_have house (logged plain d budget) +∂ r) → ((s : ℕ) → s < house.rules → T (attacker house s (head_of house r)) → ⊥)
     → T (logged plain d budget (complement (head_of house r)) −Δ) → T (logged plain d budget (head_of house r) +∂)
 

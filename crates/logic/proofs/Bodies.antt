@@ -38,10 +38,10 @@ module _ (d : Theory) (h k : ℕ → ℕ → Bool) (t r : ℕ) (e : (a : ℕ) �
   pub one_same : one_has d h t r ≡ one_has d k t r
   one_same = test_eq _ _ (one_moves d h k t r (λ a m. subst T (e a m))) (one_moves d k h t r (λ a m. subst T (sym (e a m))))
 
--- not all antecedents have a tag where one has a tag that excludes it
-pub all_one : (d : Theory) (h : ℕ → ℕ → Bool) (t u r : ℕ) → ((a : ℕ) → T (h a t) → T (h a u) → ⊥) → T (all_have d h t r) → T (one_has d h u r) → ⊥
+-- not all antecedents have a tag for one test where one has a tag for another that excludes it
+pub all_one : (d : Theory) (h k : ℕ → ℕ → Bool) (t u r : ℕ) → ((a : ℕ) → T (h a t) → T (k a u) → ⊥) → T (all_have d h t r) → T (one_has d k u r) → ⊥
 unfolding all_have one_has
-all_one d h t u r f v w = let (a, m, z) = some_of_elim (body_of d r) (λ b. h b u) w in f a (every_of_elim (body_of d r) (λ b. h b t) v a m) z
+all_one d h k t u r f v w = let (a, m, z) = some_of_elim (body_of d r) (λ b. k b u) w in f a (every_of_elim (body_of d r) (λ b. h b t) v a m) z
 
 -- of nothing, a rule with antecedents has all of no tag, and no rule has one
 pub all_nothing : (d : Theory) (h : ℕ → ℕ → Bool) (t r : ℕ) → ((a : ℕ) → T (h a t) → ⊥) → T (isnt (empty (body_of d r))) → T (all_have d h t r) → ⊥

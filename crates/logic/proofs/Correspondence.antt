@@ -24,7 +24,7 @@ module _ (d : Theory) where
   itself_below : (r s : ℕ) → T (itself r s) → r < d.rules
   itself_below r s l = ltb→lt r d.rules (and_left _ _ l)
 
-  itself_number : (r s : ℕ) → T (itself r s) → r ≡ s
+  pub itself_number : (r s : ℕ) → T (itself r s) → r ≡ s
   itself_number r s l = eqb→eq r s (and_right _ _ l)
 
   -- a theory corresponds to itself with other pairs, if superiority agrees where heads are complementary

@@ -6,21 +6,23 @@ use mathlib.Core.Path.{◌≡◌, refl, sym, ◌∙◌, ap, ap₂, subst, fun_ex
 use mathlib.Core.Logic.{⊎_elim}
 use mathlib.Core.Bool.{Bool, true, false}
 use mathlib.Core.List.{List, [], ◌∷◌, ◌++◌}
-use lib.Dec.{T, eqb, eqb→eq, eqb-suc-zero}
+use lib.Dec.{T, eqb, ltb, eqb→eq, lt→ltb, eqb-suc-zero}
 use lib.ListN.{length}
 use Rattle.logic.specs.Tests.{◌and◌, ◌or◌, isnt, some_of, member, empty, total, weigh, count_below}
-use Rattle.logic.specs.Theory.{Theory, body_of, entries, size}
+use Rattle.logic.specs.Theory.{Theory, body_of, entries, size, proper}
 use Rattle.logic.specs.System.{held, Coherent}
-use Rattle.logic.specs.Reading.{Reading, family_of, conclusion, visits, visited, decided, decides, names, naming, cost_of, tagged_by, system_of}
-use Rattle.logic.specs.Laws.{Rules}
-use Rattle.logic.proofs.Tests.{test_cases, test_eq, and_left, and_right, or_left, or_right, or_elim, eq→eqb}
+use Rattle.logic.specs.Reading.{Reading, tags, family_of, conclusion, visits, visited, decided, decides, names, naming, cost_of, tagged_by, system_of, searches_of}
+use Rattle.logic.specs.Laws.{Rules, reading_run}
+use Rattle.logic.specs.Worklist.{log_of, lines}
+use Rattle.logic.specs.Demands.{Demands}
+use Rattle.logic.proofs.Tests.{test_cases, test_eq, and_intro, and_left, and_right, or_left, or_right, or_elim, eq→eqb}
 use Rattle.logic.proofs.Lists.{member_nil, member_left, member_snoc, member_last, distinct_apart}
 use Rattle.logic.proofs.Sums.{total_ext, total_le, total_add, total_const, total_zero, total_swap, total_grid, total_point, weigh_true, weigh_false, weigh_le, weigh_imply, count_upto}
 use Rattle.logic.proofs.Derivations.{Lawful, derives_all_below}
-use Rattle.logic.proofs.Budgets.{Weighed}
+use Rattle.logic.proofs.Budgets.{Weighed, demands}
 use Rattle.logic.proofs.Pigeon.{count_one}
 use Rattle.logic.proofs.Coherence.{derivation_coherent, coherent_total}
-use Rattle.logic.proofs.Readings.{system_opposed}
+use Rattle.logic.proofs.Readings.{system_opposed, reading_lawful, reading_coherent, reading_length}
 use Rattle.logic.proofs.Bodies.{all_moves, one_moves, all_nothing, one_nothing}
 use Rattle.logic.proofs.Literals.{join_div, join_mod, literal_half, tag_half, family_half}
 
@@ -259,15 +261,58 @@ module _ (d : Theory) where
   unfolding weight
   weight_bound n p h c = omega (arith, coherent_total (n * (2 * d.atoms)) h (slot_cost n) c, slots_bound n, pairs_bound n p h)
 
--- the closure system of a reading is weighed
-pub reading_weighed : (m : Reading) → Rules m → (d : Theory) → Lawful (system_of m d) → (most : ℕ) → size d + heaviest d m.families ≤ most → Weighed (system_of m d) most
-unfolding system_of
+-- The share of a tag: of a refutation that a search finds, one more than the search's number; of all tags together.
+module _ (m : Reading) where
+  unfoldable pub share_of : ℕ → ℕ
+  share_of t = weigh (eqb (t % 2) 1 and ltb (t / 2) m.searches) (suc (t / 2))
+
+  unfoldable pub shares : ℕ
+  shares = total (tags m) share_of
+
+  share_found : (i t : ℕ) → i < m.searches → t ≡ 2 * i + 1 → i < share_of t
+  unfolding share_of
+  share_found i t b e =
+      let f : t / 2 ≡ i = omega arith in
+      let g : t % 2 ≡ 1 = omega arith in
+      subst (λ n. i < n) (sym (weigh_true _ (suc (t / 2)) (and_intro _ _ (eq→eqb _ _ g) (lt→ltb _ _ (subst (λ n. n < m.searches) (sym f) b))))) (omega arith)
+
+  -- the shares of all conclusions about n literals
+  all_shares : (n : ℕ) → 0 < tags m → total (tags m * n) (λ x. share_of (x % tags m)) ≡ n * shares
+  unfolding shares
+  all_shares n p =
+      total_grid (tags m) n (λ x. share_of (x % tags m))
+      ∙ total_ext n _ _ (λ q _. total_ext (tags m) _ share_of (λ t h. ap share_of (join_mod (tags m) q t h)))
+      ∙ total_const n shares
+
+-- the closure system of a reading is weighed, with its searches
+pub reading_weighed : (m : Reading) → Rules m → (d : Theory) → Lawful (system_of m d) (searches_of m d) → (most : ℕ)
+    → size d + heaviest d m.families + (2 * d.atoms * shares m + m.searches) * size d ≤ most → Weighed (system_of m d) (searches_of m d) most
+unfolding system_of searches_of
 reading_weighed m l d w most b =
     record {
       weight = weight d m.families;
       nothing = weight_nothing d m.families;
       growth = λ e x t u. cost_grows d m.families l.tagged (held e) (held (e ++ (x ∷ []))) x (held_adds e x (distinct_apart e x [] u))
-          (subst (λ k. x < k) (mul_assoc 2 m.families (2 * d.atoms)) (derives_all_below (system_of m d) [] (e ++ (x ∷ [])) t x (member_last e x)));
+          (subst (λ k. x < k) (mul_assoc 2 m.families (2 * d.atoms)) (derives_all_below (system_of m d) (searches_of m d) [] (e ++ (x ∷ [])) t x (member_last e x)));
+      share = λ x. share_of m (x % tags m);
+      shared = λ i h x c t. share_found m i (x % tags m) c (eqb→eq _ _ (and_left _ _ t));
       limit = λ e t. let c : weight d m.families (held e) ≤ heaviest d m.families =
-          weight_bound d m.families l.tagged (held e) (derivation_coherent (system_of m d) w (system_opposed m l d) e t) in omega arith;
+          weight_bound d m.families l.tagged (held e) (derivation_coherent (system_of m d) (searches_of m d) w (system_opposed m l d) e t) in
+          let f : (total (tags m * (2 * d.atoms)) (λ x. share_of m (x % tags m)) + m.searches) * size d ≡ (2 * d.atoms * shares m + m.searches) * size d =
+          ap (λ n. (n + m.searches) * size d) (all_shares m (2 * d.atoms) (let p = l.tagged in omega arith)) in
+          omega arith;
     }
+
+-- Demands 2 and 3 of a run in a reading, by its bound, and that its lines are at most as many as one literal of each atom has conclusions.
+module _ (m : Reading) (l : Rules m) (d : Theory) (p : T (proper d)) (most : ℕ)
+    (b : size d + heaviest d m.families + (2 * d.atoms * shares m + m.searches) * size d ≤ most) where
+  pub reading_demands : (plenty : ℕ) → size d ≤ plenty → most ≤ plenty → (budget : ℕ) → Demands (system_of m d) (searches_of m d) most plenty budget
+  unfolding system_of
+  reading_demands =
+      demands (system_of m d) (searches_of m d) (reading_lawful m l d p) most (reading_weighed m l d (reading_lawful m l d p) most b) (reading_coherent m l d p)
+
+pub reading_lines : (m : Reading) → Rules m → (d : Theory) → T (proper d) → (budget : ℕ) → lines (reading_run m d budget) ≤ tags m * d.atoms
+reading_lines m l d p budget =
+    let most : ℕ = size d + heaviest d m.families + (2 * d.atoms * shares m + m.searches) * size d in
+    let k = reading_demands m l d p most (le_refl most) most (omega arith) (le_refl most) budget in
+    reading_length m l d p (log_of (reading_run m d budget)) k.is_derivation k.once

@@ -1,6 +1,6 @@
 -- Cycles of pairs: what excludes one, what has one, and that the test `cyclic` finds it. Assumes nothing.
-use Prim.Native.Nat.{ℕ, zero, suc, ◌+◌, ◌≤◌, ◌<◌}
-use native.Mathlib.Nat.{lt_irrefl, not-suc-le-zero}
+use Prim.Native.Nat.{ℕ, zero, suc, ◌+◌, ◌<◌}
+use native.Mathlib.Nat.{lt_irrefl}
 use native.Mathlib.Omega.{arith}
 use mathlib.Core.Path.{sym, subst}
 use mathlib.Core.Logic.{⊎_elim}
@@ -8,19 +8,14 @@ use mathlib.Core.Bool.{Bool}
 use mathlib.Core.List.{List, [], ◌∷◌}
 use lib.Dec.{T}
 use lib.ListN.{length}
-use Rattle.logic.specs.Tests.{every_of, member, distinct, upto, pick}
-use Rattle.logic.specs.Cycle.{Leads, one, more, Cycle, leads_into, prune, cyclic}
-use Rattle.logic.proofs.Tests.{test_cases, cond_cases, and_intro, isnt_intro, some_of_intro, some_of_elim, every_of_elim}
-use Rattle.logic.proofs.Lists.{filled_elim, filled_intro, member_cons_elim, member_nil, pick_le, member_pick, member_pick_intro, member_upto, member_upto_intro, distinct_upto}
+use Rattle.logic.specs.Tests.{member, distinct}
+use Rattle.logic.specs.System.{held}
+use Rattle.logic.specs.Largest.{largest}
+use Rattle.logic.specs.Cycle.{Leads, one, more, Cycle, leads_into, cyclic}
+use Rattle.logic.proofs.Tests.{test_cases, and_intro, isnt_intro, some_of_intro, some_of_elim}
+use Rattle.logic.proofs.Lists.{filled_elim, filled_intro, member_cons_elim, member_nil}
 use Rattle.logic.proofs.Pigeon.{pigeon}
-
--- `pick` takes something out unless all pass
-pick_lt : (l : List ℕ) (p : ℕ → Bool) → (T (every_of l p) → ⊥) → length (pick l p) < length l
-unfolding pick every_of
-pick_lt [] p Some-out = absurd (Some-out tt)
-pick_lt (x ∷ l) p Some-out =
-    cond_cases (λ k. length k < suc (length l)) (p x) (x ∷ pick l p) (pick l p)
-    (λ t. omega (arith, pick_lt l p (λ u. Some-out (and_intro _ _ t u)))) (λ _. omega (arith, pick_le l p))
+use Rattle.logic.proofs.Largest.{largest_below, largest_fits, largest-holds}
 
 -- a way goes on at its end; two ways join
 pub leads_snoc : {R : ℕ → ℕ → Bool} {r s t : ℕ} → Leads R r s → T (R s t) → Leads R r t
@@ -71,49 +66,21 @@ module _ (R : ℕ → ℕ → Bool) where
   unfolding distinct
   set_has_cycle h n below next r t = grow h n below next (suc n) r [] (omega arith) t tt (λ y m. absurd (member_nil y m))
 
-  -- what the rounds leave stood there before
-  prune_member : (n : ℕ) (l : List ℕ) (x : ℕ) → T (member x (prune R n l)) → T (member x l)
-  unfolding prune
-  prune_member zero l x m = m
-  prune_member (suc n) l x m = (member_pick l (leads_into R l) x (prune_member n (pick l (leads_into R l)) x m)).0
-
-  -- a list in which each number leads into the list has a cycle
-  list_has_cycle : (n : ℕ) (l : List ℕ) → ((y : ℕ) → T (member y l) → y < n) → T (every_of l (leads_into R l)) → (x : ℕ) → T (member x l) → Cycle R
-  list_has_cycle n l below t =
-      set_has_cycle (λ y. member y l) n below (λ y m. let (s, u, v) = some_of_elim l (R y) (every_of_elim l _ t y m) in (s, v, u))
-
-  -- if k rounds leave something of at most k numbers, one of them took nothing out
-  left_has_cycle : (n k : ℕ) (l : List ℕ) → length l ≤ k → ((y : ℕ) → T (member y l) → y < n) → (x : ℕ) → T (member x (prune R k l)) → Cycle R
-  unfolding prune
-  left_has_cycle n zero [] f below x m = absurd (member_nil x m)
-  left_has_cycle n zero (y ∷ l) f below x m = absurd (not-suc-le-zero f)
-  left_has_cycle n (suc k) l f below x m = ⊎_elim
-      (λ t. list_has_cycle n l below t x (prune_member (suc k) l x m))
-      (λ Some-out. left_has_cycle n k (pick l (leads_into R l)) (omega (arith, pick_lt l (leads_into R l) Some-out))
-      (λ y u. below y (member_pick l (leads_into R l) y u).0) x m) (test_cases (every_of l (leads_into R l)))
-
   -- what is left has a cycle
   pub cyclic_sound : (n : ℕ) → T (cyclic R n) → Cycle R
   unfolding cyclic
   cyclic_sound n t =
       let (x, m) = filled_elim _ t in
-      left_has_cycle n n (upto n) (pigeon n (upto n) (distinct_upto n) (member_upto n)) (member_upto n) x m
+      set_has_cycle (held (largest (leads_into R) n)) n (largest_below (leads_into R) n)
+      (λ y u. let (s, v, w) = some_of_elim _ (R y) (largest_fits (leads_into R) n y u) in (s, w, v)) x m
 
-  -- no round takes out what stands on a cycle
-  prune_keeps : (n : ℕ) (l : List ℕ) → ((y : ℕ) → Leads R y y → T (member y l)) → (x : ℕ) → Leads R x x → T (member x (prune R n l))
-  unfolding prune
-  prune_keeps zero l a x c = a x c
-  prune_keeps (suc n) l a x c = prune_keeps n (pick l (leads_into R l)) stays x c
-    where
-      stays : (y : ℕ) → Leads R y y → T (member y (pick l (leads_into R l)))
-      stays y e = let (t, p, f) = cycle_next y e in member_pick_intro l (leads_into R l) y (a y e) (some_of_intro l (R y) t (a t f) p)
-
-  -- and a cycle of numbers below n is left
+  -- what stands on a cycle leads to another that does, so it is left
   pub cyclic_complete : (n : ℕ) → ((r s : ℕ) → T (R r s) → r < n) → Cycle R → T (cyclic R n)
   unfolding cyclic
   cyclic_complete n b c =
-      filled_intro _ c.0 (prune_keeps n (upto n)
-      (λ y e. let (t, p, _) = cycle_next y e in member_upto_intro n y (b y t p)) c.0 c.1)
+      filled_intro _ c.0
+      (largest-holds (leads_into R) (λ y. Leads R y y) n (λ y e. let (t, p, _) = cycle_next y e in b y t p)
+      (λ l a y e. let (t, p, f) = cycle_next y e in some_of_intro l (R y) t (a t f) p) c.0 c.1)
 
 -- a cycle against the direction is a cycle
 leads_flip : {R : ℕ → ℕ → Bool} {r s : ℕ} → Leads (λ a b. R b a) r s → Leads R s r

@@ -4,6 +4,7 @@ pub mod Lists
 pub mod Sums
 pub mod Pigeon
 pub mod Rising
+pub mod Largest
 pub mod Cycle
 pub mod Theories
 pub mod Contents
@@ -13,13 +14,15 @@ pub mod Budgets
 pub mod Literals
 pub mod Coherence
 pub mod Candidates
+pub mod Bodies
 pub mod Correspondence
 pub mod Readings
 pub mod Carrying
-pub mod Bodies
 pub mod Standing
 pub mod Verdicts
 pub mod Costs
+pub mod Inference
 pub mod Plain
+pub mod WellFounded
 pub mod Pairs
 pub mod Parts

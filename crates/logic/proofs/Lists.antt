@@ -9,7 +9,7 @@ use mathlib.Core.List.{List, [], ◌∷◌, ◌++◌, map, map-append, append_as
 use lib.Dec.{T, eqb, eqb→eq, eqb_refl}
 use lib.ListN.{length, get_or, take, drop, length-append, length-map, take-append-drop, get_or-append}
 use lib.Seq.{get_or_at, drop-cons}
-use Rattle.logic.specs.Tests.{◌or◌, isnt, some_of, member, empty, distinct, upto, pick}
+use Rattle.logic.specs.Tests.{every_of, ◌or◌, isnt, some_of, member, empty, distinct, upto, pick}
 use Rattle.logic.proofs.Tests.{cond_true, cond_false, cond_cases, and_intro, and_left, and_right, or_left, or_right, or_elim, isnt_intro, isnt_elim, lt_suc_cases, test_eq}
 
 pub member_cons_elim : (x y : ℕ) (l : List ℕ) → T (member x (y ∷ l)) → (x ≡ y) ⊎ T (member x l)
@@ -63,14 +63,17 @@ member_more l x y =
 pub snoc_append : (l : List ℕ) (x : ℕ) (m : List ℕ) → (l ++ (x ∷ [])) ++ m ≡ l ++ (x ∷ m)
 snoc_append l x m = append_assoc l (x ∷ []) m
 
+pub distinct_append : (l m : List ℕ) → T (distinct l) → T (distinct m) → ((x : ℕ) → T (member x l) → T (member x m) → ⊥) → T (distinct (l ++ m))
+unfolding distinct
+distinct_append [] m t u n = u
+distinct_append (y ∷ l) m t u n =
+    and_intro _ _ (isnt_intro _ (λ v. ⊎_elim (isnt_elim _ (and_left _ _ t)) (n y (member_here y l)) (member_append y l m v)))
+    (distinct_append l m (and_right _ _ t) u (λ x v. n x (member_there x y l v)))
+
 pub distinct_snoc : (l : List ℕ) (x : ℕ) → T (distinct l) → (T (member x l) → ⊥) → T (distinct (l ++ (x ∷ [])))
 unfolding distinct
-distinct_snoc [] x t n = and_intro _ _ (isnt_intro _ (member_nil x)) tt
-distinct_snoc (y ∷ l) x t n =
-    and_intro _ _
-    (isnt_intro _ (λ m. ⊎_elim (isnt_elim _ (and_left _ _ t)) (λ e. n (subst (λ z. T (member z (y ∷ l))) e (member_here y l)))
-    (member_snoc l x y m)))
-    (distinct_snoc l x (and_right _ _ t) (λ m. n (member_there x y l m)))
+distinct_snoc l x t n =
+    distinct_append l (x ∷ []) t (and_intro _ _ (isnt_intro _ (member_nil x)) tt) (λ y m u. n (subst (λ z. T (member z l)) (member_one y x u) m))
 
 pub distinct_left : (l m : List ℕ) → T (distinct (l ++ m)) → T (distinct l)
 unfolding distinct
@@ -173,10 +176,10 @@ pick_le (x ∷ l) p =
     cond_cases (λ k. length k ≤ suc (length l)) (p x) (x ∷ pick l p) (pick l p) (λ _. omega arith) (λ _. omega arith)
 
 -- and takes nothing out where all pass
-pub pick_all : (l : List ℕ) (p : ℕ → Bool) → ((x : ℕ) → T (p x)) → pick l p ≡ l
-unfolding pick
-pick_all [] p a = refl
-pick_all (x ∷ l) p a = cond_true (p x) _ _ (a x) ∙ ap (x ∷◌) (pick_all l p a)
+pub pick_all : (l : List ℕ) (p : ℕ → Bool) → T (every_of l p) → pick l p ≡ l
+unfolding pick every_of
+pick_all [] p t = refl
+pick_all (x ∷ l) p t = cond_true (p x) _ _ (and_left _ _ t) ∙ ap (x ∷◌) (pick_all l p (and_right _ _ t))
 
 -- two tests of which no number passes both
 apart_step : (x : ℕ) (a b : Bool) (l k m : List ℕ) → (T a → T b → ⊥) → length l + length k ≤ length m → length (cond a (x ∷ l) l) + length (cond b (x ∷ k) k) ≤ suc (length m)

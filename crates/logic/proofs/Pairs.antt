@@ -10,12 +10,12 @@ use lib.Dec.{T, ltb, eqb, eqb→eq, ltb→lt, lt→ltb}
 use Rattle.logic.specs.Tests.{◌and◌}
 use Rattle.logic.specs.Theory.{Theory, Pair, complement, head_of, superior}
 use Rattle.logic.specs.System.{derivation, Derivable}
-use Rattle.logic.specs.Reading.{Reading, system_of}
-use Rattle.logic.specs.Plain.{plain, plain_system}
+use Rattle.logic.specs.Reading.{Reading, system_of, searches_of}
+use Rattle.logic.specs.Plain.{plain, plain_system, no_searches}
 use Rattle.logic.specs.Pairs.{complementary_heads, with_pairs, without_pair}
 use Rattle.logic.specs.Correspondence.{Corresponds}
 use Rattle.logic.specs.Laws.{Rules}
-use Rattle.logic.proofs.Tests.{test_eq, cond_cases, cond_true, cond_false, at_most, and_left, and_right, eq→eqb, some_intro, some_elim}
+use Rattle.logic.proofs.Tests.{every_of_intro, test_eq, cond_cases, cond_true, cond_false, at_most, and_left, and_right, eq→eqb, some_intro, some_elim}
 use Rattle.logic.proofs.Lists.{pick_all}
 use Rattle.logic.proofs.Literals.{complement_complement}
 use Rattle.logic.proofs.Correspondence.{itself, corresponds_pairs, corresponds_turn}
@@ -32,9 +32,9 @@ opposed_heads d t s e = eq→eqb _ _ (sym (complement_complement (head_of d t)) 
 
 -- theories that correspond within all literals have the same derivations, in every reading
 all_derivations : (m : Reading) → Rules m → {d k : Theory} {like : ℕ → ℕ → Bool} → Corresponds d k (λ _. true) like
-    → (l : List ℕ) → T (derivation (system_of m d) l) → T (derivation (system_of m k) l)
+    → (l : List ℕ) → T (derivation (system_of m d) (searches_of m d) l) → T (derivation (system_of m k) (searches_of m k) l)
 all_derivations m r {d} {k} c l t =
-    subst (λ a. T (derivation (system_of m k) a)) (pick_all l (λ _. true) (λ _. tt)) (derivation_cut (system_carries m r c) l t)
+    subst (λ a. T (derivation (system_of m k) (searches_of m k) a)) (pick_all l (λ _. true) (every_of_intro l (λ _. true) (λ _ _. tt))) (derivation_cut (system_carries m r c) l t)
 
 -- superiority without the i-th pair, whose heads are not complementary
 module _ (d : Theory) (i : ℕ) (b : i < d.pairs) (f : T (complementary_heads d (d.pair i).stronger (d.pair i).weaker) → ⊥) where
@@ -75,14 +75,14 @@ module _ (d : Theory) (i : ℕ) (b : i < d.pairs) (f : T (complementary_heads d 
 
   -- Such a pair can be taken away or put in, and the derivations are the same, in every reading, and so what is derivable. (The cost is not: row
   -- 13 of specs/Cases.antt is row 9 without its pair.)
-  pub same_derivations : (m : Reading) → Rules m → (l : List ℕ) → T (derivation (system_of m d) l) ↔ T (derivation (system_of m (without_pair d i)) l)
+  pub same_derivations : (m : Reading) → Rules m → (l : List ℕ) → T (derivation (system_of m d) (searches_of m d) l) ↔ T (derivation (system_of m (without_pair d i)) (searches_of m (without_pair d i)) l)
   same_derivations m r l = (all_derivations m r pair_corresponds l, all_derivations m r (corresponds_turn pair_corresponds) l)
 
   -- in the plain reading
-  pub pair_same_derivations : (l : List ℕ) → T (derivation (plain_system d) l) ↔ T (derivation (plain_system (without_pair d i)) l)
+  pub pair_same_derivations : (l : List ℕ) → T (derivation (plain_system d) (no_searches d) l) ↔ T (derivation (plain_system (without_pair d i)) (no_searches (without_pair d i)) l)
   pair_same_derivations = same_derivations plain plain_rules
 
   -- and so what is derivable in it
-  pub pair_without_effect : (x : ℕ) → Derivable (plain_system d) x ↔ Derivable (plain_system (without_pair d i)) x
+  pub pair_without_effect : (x : ℕ) → Derivable (plain_system d) (no_searches d) x ↔ Derivable (plain_system (without_pair d i)) (no_searches (without_pair d i)) x
   pair_without_effect x =
       (λ (l, t, m). (l, (pair_same_derivations l).0 t, m), λ (l, t, m). (l, (pair_same_derivations l).1 t, m))

@@ -1,18 +1,18 @@
--- The worklist run of any lawful closure system: what each step keeps. Assumes nothing.
+-- The worklist run of any lawful closure system with searches: what each step keeps. Assumes nothing.
 use Prim.Native.Nat.{ℕ, zero, suc, ◌+◌, ◌-◌, ◌≤◌, ◌<◌}
-use native.Mathlib.Nat.{not-le_of_lt}
+use native.Mathlib.Nat.{not-suc-le-zero}
 use native.Mathlib.Omega.{arith}
 use mathlib.Core.Path.{◌≡◌, refl, sym, ◌∙◌, ap, subst}
 use mathlib.Core.Logic.{⊎_elim}
-use mathlib.Core.Bool.{Bool, true, false}
+use mathlib.Core.Bool.{Bool, true, false, cond}
 use mathlib.Core.List.{List, [], ◌∷◌, ◌++◌, append_assoc, append-nil, IsPrefix}
 use lib.Dec.{T, leb, leb→le, le→leb}
 use Rattle.logic.specs.Tests.{◌and◌, isnt, member, empty, distinct}
-use Rattle.logic.specs.System.{System, held, derives_from, derivation}
-use Rattle.logic.specs.Worklist.{Outcome, outcome, put, initial, grow, process, cost_after, costs_from, costs, proceed}
-use Rattle.logic.proofs.Tests.{test_cases, cond_true, cond_false, at_most, and_intro, and_left, and_right, isnt_intro, isnt_elim}
-use Rattle.logic.proofs.Lists.{member_nil, member_here, member_there, member_left, member_right, member_cons_elim, member_snoc, member_last, snoc_append, distinct_snoc, distinct_pick, distinct_upto, member_pick, member_pick_intro, member_upto, member_upto_intro}
-use Rattle.logic.proofs.Derivations.{Lawful, monotone, derives_next, derivation_snoc, derives_all_below}
+use Rattle.logic.specs.System.{System, Searches, held, yields, derives_from, derivation}
+use Rattle.logic.specs.Worklist.{Stage, stage, Outcome, outcome, put, initial, grow, process, cost_after, costs_from, costs, toll_from, toll, found, step_from, step, ended, goes, step_if, proceed, opened}
+use Rattle.logic.proofs.Tests.{test_cases, true_of, false_of, cond_true, cond_false, at_most, empty_nil, and_intro, and_left, and_right, or_left, or_right, isnt_intro, isnt_elim, some_intro, lt_suc_cases}
+use Rattle.logic.proofs.Lists.{member_nil, member_here, member_there, member_left, member_right, member_cons_elim, member_snoc, member_last, snoc_append, distinct_snoc, distinct_append, distinct_pick, distinct_upto, member_pick, member_pick_intro, member_upto, member_upto_intro}
+use Rattle.logic.proofs.Derivations.{Lawful, monotone, yields_more, derives_next, derives_append, derivation_snoc, derives_all_below}
 
 pub prefix_refl : (l : List ℕ) → IsPrefix l l
 prefix_refl l = ([], append-nil l)
@@ -48,12 +48,6 @@ module _ (s : System) where
   grow_append h done todo [] ds = refl
   grow_append h done todo (c ∷ cs) ds = grow_append h done (put (s.infers h c and isnt (member c (done ++ todo))) todo c) cs ds
 
-  -- what is processed, then what is pending: a derivation without repeats that holds all that follows from what is processed
-  pub record Sound (done todo : List ℕ) : Type 0 where
-    pub derives : T (derivation s (done ++ todo))
-    pub once : T (distinct (done ++ todo))
-    pub closed : (x : ℕ) → x < s.conclusions → T (s.infers (held done) x) → T (member x (done ++ todo))
-
   -- the sum of costs grows at its end
   pub costs_from_snoc : (e l : List ℕ) (x : ℕ) → costs_from s e (l ++ (x ∷ [])) ≡ costs_from s e l + cost_after s (e ++ l) x
   unfolding costs_from
@@ -68,65 +62,92 @@ module _ (s : System) where
   pub costs_snoc : (l : List ℕ) (x : ℕ) → costs s (l ++ (x ∷ [])) ≡ costs s l + cost_after s l x
   costs_snoc l x = costs_from_snoc [] l x
 
-  -- one step of a run
-  pub proceed_done : (n budget : ℕ) (done : List ℕ) (spent : ℕ) → proceed s n budget done [] spent ≡ outcome true done [] spent
-  unfolding proceed empty
-  proceed_done zero budget done spent = refl
-  proceed_done (suc n) budget done spent = refl
+  -- a step, by whether a line is pending
+  pub toll_line : (done : List ℕ) (x : ℕ) (xs : List ℕ) → toll_from s done (x ∷ xs) ≡ cost_after s done x
+  unfolding toll_from
+  toll_line done x xs = refl
 
-  pub proceed_zero : (budget : ℕ) (done : List ℕ) (x : ℕ) (xs : List ℕ) (spent : ℕ) → proceed s 0 budget done (x ∷ xs) spent ≡ outcome false done (x ∷ xs) spent
-  unfolding proceed empty
-  proceed_zero budget done x xs spent = refl
+  pub toll_search : (done : List ℕ) → toll_from s done [] ≡ s.start
+  unfolding toll_from
+  toll_search done = refl
 
-  pub proceed_steps : (n budget : ℕ) (done : List ℕ) (x : ℕ) (xs : List ℕ) (spent : ℕ) → cost_after s done x ≤ budget - spent
-      → proceed s (suc n) budget done (x ∷ xs) spent ≡ proceed s n budget (done ++ (x ∷ [])) (process s done x xs) (spent + cost_after s done x)
+module _ (s : System) (z : Searches) where
+  pub step_line : (done : List ℕ) (x : ℕ) (xs : List ℕ) (idle searched spent : ℕ)
+      → step_from s z done (x ∷ xs) idle searched spent ≡ stage (done ++ (x ∷ [])) (process s done x xs) 0 searched (spent + cost_after s done x)
+  unfolding step_from
+  step_line done x xs idle searched spent = refl
+
+  pub step_search : (done : List ℕ) (idle searched spent : ℕ)
+      → step_from s z done [] idle searched spent
+      ≡ stage done (found s z idle done) (cond (empty (found s z idle done)) (suc idle) 0) (suc searched) (spent + s.start)
+  unfolding step_from
+  step_search done idle searched spent = refl
+
+  -- where a run goes on, and where it does not
+  pub goes_intro : (budget : ℕ) (g : Stage) → (T (ended s z g) → ⊥) → toll s g ≤ budget - g.spent → T (goes s z budget g)
+  goes_intro budget g n f = and_intro _ _ (isnt_intro _ n) (le→leb _ _ f)
+
+  pub goes_on : (budget : ℕ) (g : Stage) → T (goes s z budget g) → (T (ended s z g) → ⊥) × (toll s g ≤ budget - g.spent)
+  goes_on budget g t = (isnt_elim _ (and_left _ _ t), leb→le _ _ (and_right _ _ t))
+
+  pub goes_not : (budget : ℕ) (g : Stage) → (T (goes s z budget g) → ⊥) → (T (ended s z g) → ⊥) → budget - g.spent < toll s g
+  goes_not budget g n e = ⊎_elim (λ f. absurd (n (goes_intro budget g e f))) (λ f. f) (at_most (toll s g) (budget - g.spent))
+
+  pub proceed_steps : (n budget : ℕ) (g : Stage) → T (goes s z budget g) → proceed s z (suc n) budget g ≡ proceed s z n budget (step s z g)
+  unfolding proceed step_if
+  proceed_steps n budget g t = ap (λ b. proceed s z n budget (step_if s z b g)) (true_of (goes s z budget g) t)
+
+  pub proceed_stays : (n budget : ℕ) (g : Stage) → (T (goes s z budget g) → ⊥) → proceed s z n budget g ≡ outcome (ended s z g) g
+  unfolding proceed step_if
+  proceed_stays zero budget g t = refl
+  proceed_stays (suc n) budget g t = ap (λ b. proceed s z n budget (step_if s z b g)) (false_of (goes s z budget g) t) ∙ proceed_stays n budget g t
+
+  -- what holds wherever a run is left, and holds before a step if it holds after it, holds of a run
+  pub proceed-cases {ℓ} : (Q : Stage → Outcome → Type ℓ) (budget : ℕ) → ((g : Stage) → Q g (outcome (ended s z g) g))
+      → ((g : Stage) (o : Outcome) → T (goes s z budget g) → Q (step s z g) o → Q g o) → (n : ℕ) (g : Stage) → Q g (proceed s z n budget g)
   unfolding proceed
-  proceed_steps n budget done x xs spent h = cond_true (leb (cost_after s done x) (budget - spent)) _ _ (le→leb _ _ h)
-
-  pub proceed_stays : (n budget : ℕ) (done : List ℕ) (x : ℕ) (xs : List ℕ) (spent : ℕ) → budget - spent < cost_after s done x
-      → proceed s n budget done (x ∷ xs) spent ≡ outcome false done (x ∷ xs) spent
-  unfolding proceed
-  proceed_stays zero budget done x xs spent h = proceed_zero budget done x xs spent
-  proceed_stays (suc n) budget done x xs spent h =
-      cond_false (leb (cost_after s done x) (budget - spent)) _ _ (λ t. not-le_of_lt h (leb→le _ _ t))
-
-  -- what holds where a run can go no further, and holds before a step if it holds after it, holds of a run
-  pub proceed-cases {ℓ} : (Q : List ℕ → List ℕ → ℕ → Outcome → Type ℓ) (budget : ℕ)
-      → ((b : Bool) (done todo : List ℕ) (spent : ℕ) → b ≡ empty todo → Q done todo spent (outcome b done todo spent))
-      → ((done : List ℕ) (x : ℕ) (xs : List ℕ) (spent : ℕ) (o : Outcome) → cost_after s done x ≤ budget - spent
-      → Q (done ++ (x ∷ [])) (process s done x xs) (spent + cost_after s done x) o → Q done (x ∷ xs) spent o)
-      → (n : ℕ) (done todo : List ℕ) (spent : ℕ) → Q done todo spent (proceed s n budget done todo spent)
-  unfolding empty
-  proceed-cases Q budget end step zero done [] spent = subst (Q done [] spent) (sym (proceed_done 0 budget done spent)) (end true done [] spent refl)
-  proceed-cases Q budget end step zero done (x ∷ xs) spent =
-      subst (Q done (x ∷ xs) spent) (sym (proceed_zero budget done x xs spent)) (end false done (x ∷ xs) spent refl)
-  proceed-cases Q budget end step (suc n) done [] spent =
-      subst (Q done [] spent) (sym (proceed_done (suc n) budget done spent)) (end true done [] spent refl)
-  proceed-cases Q budget end step (suc n) done (x ∷ xs) spent =
-      ⊎_elim
-      (λ h. subst (Q done (x ∷ xs) spent) (sym (proceed_steps n budget done x xs spent h))
-      (step done x xs spent _ h (proceed-cases Q budget end step n _ _ _)))
-      (λ h. subst (Q done (x ∷ xs) spent) (sym (proceed_stays (suc n) budget done x xs spent h)) (end false done (x ∷ xs) spent refl))
-      (at_most (cost_after s done x) (budget - spent))
+  proceed-cases Q budget end next zero g = end g
+  proceed-cases Q budget end next (suc n) g =
+      ⊎_elim (λ t. subst (Q g) (sym (proceed_steps n budget g t)) (next g _ t (proceed-cases Q budget end next n (step s z g))))
+      (λ t. subst (Q g) (sym (proceed_stays (suc n) budget g t)) (end g)) (test_cases (goes s z budget g))
 
   -- what each step keeps, a run keeps
-  pub proceed-keeps {ℓ} : (P : List ℕ → List ℕ → ℕ → Type ℓ) (budget : ℕ)
-      → ((done : List ℕ) (x : ℕ) (xs : List ℕ) (spent : ℕ) → cost_after s done x ≤ budget - spent → P done (x ∷ xs) spent
-      → P (done ++ (x ∷ [])) (process s done x xs) (spent + cost_after s done x))
-      → (n : ℕ) (done todo : List ℕ) (spent : ℕ) → P done todo spent
-      → P (proceed s n budget done todo spent).processed (proceed s n budget done todo spent).pending (proceed s n budget done todo spent).spent
-  proceed-keeps P budget step =
-      proceed-cases (λ done todo spent o. P done todo spent → P o.processed o.pending o.spent) budget (λ b done todo spent e p. p)
-      (λ done x xs spent o h q p. q (step done x xs spent h p))
+  abbrev pub left : Outcome → Stage
+  left o = stage o.processed o.pending o.idle o.searched o.spent
 
-  -- finished exactly if nothing is pending
-  pub proceed_finished : (n budget : ℕ) (done todo : List ℕ) (spent : ℕ)
-      → (proceed s n budget done todo spent).finished ≡ empty (proceed s n budget done todo spent).pending
-  proceed_finished n budget = proceed-cases (λ done todo spent o. o.finished ≡ empty o.pending) budget (λ b done todo spent e. e) (λ done x xs spent o h q. q) n
+  pub proceed-keeps {ℓ} : (P : Stage → Type ℓ) (budget : ℕ) → ((g : Stage) → T (goes s z budget g) → P g → P (step s z g))
+      → (n : ℕ) (g : Stage) → P g → P (left (proceed s z n budget g))
+  proceed-keeps P budget next = proceed-cases (λ g o. P g → P (left o)) budget (λ g p. p) (λ g o t q p. q (next g t p))
 
-module _ (s : System) (w : Lawful s) where
+  -- finished exactly if it has ended
+  pub proceed_finished : (n budget : ℕ) (g : Stage) → (proceed s z n budget g).finished ≡ ended s z (left (proceed s z n budget g))
+  proceed_finished n budget = proceed-cases (λ g o. o.finished ≡ ended s z (left o)) budget (λ g. refl) (λ g o t q. q) n
+
+  -- what holds of every step: of a line's, and of a search's
+  pub step-cases {ℓ} : (P : Stage → Type ℓ) (Q : Stage → Type ℓ)
+      → ((done : List ℕ) (x : ℕ) (xs : List ℕ) (idle searched spent : ℕ) → P (stage done (x ∷ xs) idle searched spent)
+      → Q (stage (done ++ (x ∷ [])) (process s done x xs) 0 searched (spent + cost_after s done x)))
+      → ((done : List ℕ) (idle searched spent : ℕ) → P (stage done [] idle searched spent)
+      → Q (stage done (found s z idle done) (cond (empty (found s z idle done)) (suc idle) 0) (suc searched) (spent + s.start)))
+      → (g : Stage) → P g → Q (step s z g)
+  step-cases P Q line search g = go g.processed g.pending g.idle g.searched g.spent
+    where
+      go : (done todo : List ℕ) (idle searched spent : ℕ) → P (stage done todo idle searched spent) → Q (step_from s z done todo idle searched spent)
+      go done [] idle searched spent p = subst Q (sym (step_search done idle searched spent)) (search done idle searched spent p)
+      go done (x ∷ xs) idle searched spent p = subst Q (sym (step_line done x xs idle searched spent)) (line done x xs idle searched spent p)
+
+  -- What is processed, then what is pending: a derivation without repeats that holds all that follows from what is processed; nothing is
+  -- pending past an idle search, and what an idle search finds is there.
+  pub record Sound (g : Stage) : Type 0 where
+    pub derives : T (derivation s z (g.processed ++ g.pending))
+    pub once : T (distinct (g.processed ++ g.pending))
+    pub closed : (x : ℕ) → x < s.conclusions → T (s.infers (held g.processed) x) → T (member x (g.processed ++ g.pending))
+    pub quiet : (T (empty g.pending) → ⊥) → g.idle ≡ 0
+    pub nothing : (i x : ℕ) → i < g.idle → x < s.conclusions → T (z.finds i (held g.processed) x) → T (member x g.processed)
+
+module _ (s : System) (z : Searches) (w : Lawful s z) where
   Good : List ℕ → List ℕ → Type 0
-  Good done todo = T (derivation s (done ++ todo)) × T (distinct (done ++ todo))
+  Good done todo = T (derivation s z (done ++ todo)) × T (distinct (done ++ todo))
 
   put_good : (done todo : List ℕ) (c : ℕ) → c < s.conclusions → Good done todo
       → Good done (put (s.infers (held done) c and isnt (member c (done ++ todo))) todo c)
@@ -136,9 +157,9 @@ module _ (s : System) (w : Lawful s) where
       go : (t : Bool) → (T t → T (s.infers (held done) c and isnt (member c (done ++ todo)))) → Good done (put t todo c)
       go false f = (g, o)
       go true f =
-          let i : T (s.infers (held (done ++ todo)) c) = monotone s w (held done) (held (done ++ todo)) c (λ z. member_left z done todo) (and_left _ _ (f tt)) in
+          let i : T (s.infers (held (done ++ todo)) c) = monotone s z w (held done) (held (done ++ todo)) c (λ z. member_left z done todo) (and_left _ _ (f tt)) in
           let n : T (member c (done ++ todo)) → ⊥ = isnt_elim _ (and_right _ _ (f tt)) in (
-            subst (λ k. T (derivation s k)) (append_assoc done todo (c ∷ [])) (derivation_snoc s (done ++ todo) c g b i),
+            subst (λ k. T (derivation s z k)) (append_assoc done todo (c ∷ [])) (derivation_snoc s z (done ++ todo) c g b (or_left _ _ i)),
             subst (λ k. T (distinct k)) (append_assoc done todo (c ∷ [])) (distinct_snoc (done ++ todo) c o n),
           )
 
@@ -165,26 +186,30 @@ module _ (s : System) (w : Lawful s) where
           (subst (λ z. T (member c (done ++ put (s.infers (held done) z and isnt (member z (done ++ todo))) todo z))) e written)
 
   -- the initial conclusions
-  all_infer : (e l : List ℕ) → ((x : ℕ) → T (member x l) → (x < s.conclusions) × T (s.infers (held []) x)) → T (derives_from s e l)
+  all_infer : (e l : List ℕ) → ((x : ℕ) → T (member x l) → (x < s.conclusions) × T (s.infers (held []) x)) → T (derives_from s z e l)
   unfolding derives_from
   all_infer e [] f = tt
   all_infer e (x ∷ l) f =
       let (b, t) = f x (member_here x l) in
-      derives_next s e x l b (monotone s w (held []) (held e) x (λ y m. absurd (member_nil y m)) t)
+      derives_next s z e x l b (or_left _ _ (monotone s z w (held []) (held e) x (λ y m. absurd (member_nil y m)) t))
       (all_infer (e ++ (x ∷ [])) l (λ y m. f y (member_there y x l m)))
 
-  pub initial_sound : Sound s [] (initial s)
+  pub initial_sound : Sound s z (opened s z)
   initial_sound =
       record {
         derives = all_infer [] (initial s) (λ x m. let (u, t) = member_pick _ _ x m in (member_upto s.conclusions x u, t));
         once = distinct_pick _ _ (distinct_upto s.conclusions);
         closed = λ x b t. member_pick_intro _ _ x (member_upto_intro s.conclusions x b) t;
+        quiet = λ _. refl;
+        nothing = λ i x h. absurd (not-suc-le-zero h);
       }
 
   -- processing a conclusion
-  pub process_sound : (done : List ℕ) (x : ℕ) (xs : List ℕ) → Sound s done (x ∷ xs) → Sound s (done ++ (x ∷ [])) (process s done x xs)
+  process_sound : (done : List ℕ) (x : ℕ) (xs : List ℕ) (idle searched spent : ℕ) → Sound s z (stage done (x ∷ xs) idle searched spent)
+      → Sound s z (stage (done ++ (x ∷ [])) (process s done x xs) 0 searched (spent + cost_after s done x))
   unfolding Good
-  process_sound done x xs k = record { derives = good.0; once = good.1; closed = closed' }
+  process_sound done x xs idle searched spent k =
+      record { derives = good.0; once = good.1; closed = closed'; quiet = λ _. refl; nothing = λ i y h. absurd (not-suc-le-zero h) }
     where
       now : List ℕ
       now = done ++ (x ∷ [])
@@ -193,12 +218,12 @@ module _ (s : System) (w : Lawful s) where
       same = snoc_append done x xs
 
       below : x < s.conclusions
-      below = derives_all_below s [] (done ++ (x ∷ xs)) k.derives x (member_right x done (x ∷ xs) (member_here x xs))
+      below = derives_all_below s z [] (done ++ (x ∷ xs)) k.derives x (member_right x done (x ∷ xs) (member_here x xs))
 
       good : Good now (process s done x xs)
       good =
           grow_good now xs (s.tried x) (λ c m. w.inside x c below m)
-          (subst (λ l. T (derivation s l)) (sym same) k.derives, subst (λ l. T (distinct l)) (sym same) k.once)
+          (subst (λ l. T (derivation s z l)) (sym same) k.derives, subst (λ l. T (distinct l)) (sym same) k.once)
 
       closed' : (z : ℕ) → z < s.conclusions → T (s.infers (held now) z) → T (member z (now ++ process s done x xs))
       closed' z b t = ⊎_elim (λ m. grow_holds now xs (s.tried x) z m t) untried (test_cases (member z (s.tried x)))
@@ -210,3 +235,54 @@ module _ (s : System) (w : Lawful s) where
               (λ y m u. ⊎_elim (λ v. v) (λ e. absurd (n (subst (λ j. T (member z (s.tried j))) e m))) (member_snoc done x y u)) t in
               prefix_member _ _ (prefix_under now xs _ (grow_extends s (held now) now xs (s.tried x))) z
               (subst (λ l. T (member z l)) (sym same) (k.closed z b before))
+
+  -- making a search
+  pub found_of : (i : ℕ) (done : List ℕ) (x : ℕ) → T (member x (found s z i done)) → (x < s.conclusions) × T (z.finds i (held done) x) × (T (member x done) → ⊥)
+  found_of i done x m =
+      let (u, t) = member_pick _ _ x m in (member_upto s.conclusions x u, and_left _ _ t, isnt_elim _ (and_right _ _ t))
+
+  found_all : (i : ℕ) (done : List ℕ) (x : ℕ) → x < s.conclusions → T (z.finds i (held done) x) → T (member x (done ++ found s z i done))
+  found_all i done x b t =
+      ⊎_elim (λ m. member_left x done _ m)
+      (λ n. member_right x done _ (member_pick_intro _ _ x (member_upto_intro s.conclusions x b) (and_intro _ _ t (isnt_intro _ n)))) (test_cases (member x done))
+
+  all_yield : (done e l : List ℕ) → ((x : ℕ) → T (member x done) → T (member x e)) → ((x : ℕ) → T (member x l) → (x < s.conclusions) × T (yields s z (held done) x))
+      → T (derives_from s z e l)
+  unfolding derives_from
+  all_yield done e [] m f = tt
+  all_yield done e (x ∷ l) m f =
+      let (b, t) = f x (member_here x l) in
+      derives_next s z e x l b (yields_more s z w (held done) (held e) x m t)
+      (all_yield done (e ++ (x ∷ [])) l (λ y u. member_left y e (x ∷ []) (m y u)) (λ y u. f y (member_there y x l u)))
+
+  search_sound : (done : List ℕ) (idle searched spent : ℕ) → idle < z.count → Sound s z (stage done [] idle searched spent)
+      → Sound s z (stage done (found s z idle done) (cond (empty (found s z idle done)) (suc idle) 0) (suc searched) (spent + s.start))
+  search_sound done idle searched spent c k =
+      record {
+        derives = derives_append s z [] done (found s z idle done) derived
+            (all_yield done done (found s z idle done) (λ x m. m) (λ x m. let (b, t, _) = found_of idle done x m in (b, or_right _ _ (some_intro _ _ idle c t))));
+        once = distinct_append done (found s z idle done) (subst (λ l. T (distinct l)) (append-nil done) k.once)
+            (distinct_pick _ _ (distinct_upto s.conclusions)) (λ x m n. (found_of idle done x n).2 m);
+        closed = λ x b t. member_left x done _ (subst (λ l. T (member x l)) (append-nil done) (k.closed x b t));
+        quiet = λ n. cond_false (empty (found s z idle done)) (suc idle) 0 n;
+        nothing = λ i x h b t. ⊎_elim (none i x h b t) (λ n. absurd (not-suc-le-zero (subst (λ j. i < j) (cond_false (empty (found s z idle done)) (suc idle) 0 n) h))) (test_cases (empty (found s z idle done)));
+      }
+    where
+      derived : T (derivation s z done)
+      derived = subst (λ l. T (derivation s z l)) (append-nil done) k.derives
+
+      none : (i x : ℕ) → i < cond (empty (found s z idle done)) (suc idle) 0 → x < s.conclusions → T (z.finds i (held done) x) → T (empty (found s z idle done)) → T (member x done)
+      none i x h b t e =
+          ⊎_elim (λ l. k.nothing i x l b t)
+          (λ i≡. subst (λ l. T (member x l)) (append-nil done) (subst (λ l. T (member x (done ++ l))) (empty_nil (found s z idle done) e) (found_all idle done x b (subst (λ j. T (z.finds j (held done) x)) i≡ t))))
+          (lt_suc_cases i idle (subst (λ j. i < j) (cond_true (empty (found s z idle done)) (suc idle) 0 e) h))
+
+  -- a run's step
+  pub step_sound : (budget : ℕ) (g : Stage) → T (goes s z budget g) → Sound s z g → Sound s z (step s z g)
+  unfolding empty
+  step_sound budget g t k =
+      step-cases s z (λ g. T (goes s z budget g) × Sound s z g) (Sound s z) (λ done x xs idle searched spent (_, q). process_sound done x xs idle searched spent q)
+      (λ done idle searched spent (u, q). search_sound done idle searched spent (search_left idle (goes_on s z budget (stage done [] idle searched spent) u).0) q) g (t, k)
+    where
+      search_left : (idle : ℕ) → (T (true and leb z.count idle) → ⊥) → idle < z.count
+      search_left idle n = ⊎_elim (λ l. absurd (n (and_intro _ _ tt (le→leb _ _ l)))) (λ l. l) (at_most z.count idle)

@@ -11,40 +11,34 @@ use Rattle.logic.specs.Tests.{◌or◌, every_of}
 use Rattle.logic.specs.Theory.{Theory, complement, body_of, proper}
 use Rattle.logic.specs.Inference.{all_have, one_has}
 use Rattle.logic.specs.System.{held, Coherent, derivation}
-use Rattle.logic.specs.Worklist.{log_of, run}
-use Rattle.logic.specs.Reading.{Reading, tags, conclusion, decided, tagged_by, system_of}
+use Rattle.logic.specs.Worklist.{log_of}
+use Rattle.logic.specs.Reading.{Reading, tags, conclusion, decided, tagged_by, system_of, searches_of}
 use Rattle.logic.specs.Standing.{Standing, firing, out, waiting, first_fit, standing, NeverBoth, standing_number}
-use Rattle.logic.specs.Laws.{Rules}
+use Rattle.logic.specs.Laws.{Rules, reading_run}
 use Rattle.logic.proofs.Lists.{member_left}
-use Rattle.logic.proofs.Theories.{heads_below}
-use Rattle.logic.proofs.Derivations.{Lawful}
 use Rattle.logic.proofs.Budgets.{run_derives}
-use Rattle.logic.proofs.Coherence.{derivation_coherent, part_coherent}
-use Rattle.logic.proofs.Readings.{system_lawful, system_opposed}
+use Rattle.logic.proofs.Coherence.{part_coherent}
+use Rattle.logic.proofs.Readings.{reading_lawful, reading_coherent}
 use Rattle.logic.proofs.Bodies.{all_one}
 
 -- over what holds no conclusion beside its opposite
 pub coherent_never : (m : Reading) (d : Theory) (f : ℕ) (h : ℕ → Bool) → Coherent h → NeverBoth d f (tagged_by (tags m) h)
 unfolding Coherent
 coherent_never m d f h c r =
-    all_one d (tagged_by (tags m) h) (2 * f) (2 * f + 1) r
+    all_one d (tagged_by (tags m) h) (tagged_by (tags m) h) (2 * f) (2 * f + 1) r
     (λ a t u. let e : conclusion (tags m) a (2 * f + 1) ≡ complement (conclusion (tags m) a (2 * f)) = omega arith in
     c (conclusion (tags m) a (2 * f)) t (subst (λ x. T (h x)) e u))
 
 module _ (m : Reading) (l : Rules m) (d : Theory) (p : T (proper d)) (f : ℕ) where
-  lawful : Lawful (system_of m d)
-  lawful = system_lawful m l d (heads_below d p)
-
-  pub derivation_never : (k : List ℕ) → T (derivation (system_of m d) k) → NeverBoth d f (tagged_by (tags m) (held k))
-  derivation_never k t =
-      coherent_never m d f (held k) (derivation_coherent (system_of m d) lawful (system_opposed m l d) k t)
+  pub derivation_never : (k : List ℕ) → T (derivation (system_of m d) (searches_of m d) k) → NeverBoth d f (tagged_by (tags m) (held k))
+  derivation_never k t = coherent_never m d f (held k) (reading_coherent m l d p k t)
 
   -- "Over the worked lines of any run, firing and out never both hold."
-  pub run_never : (budget : ℕ) → NeverBoth d f (tagged_by (tags m) (held (run (system_of m d) budget).processed))
+  pub run_never : (budget : ℕ) → NeverBoth d f (tagged_by (tags m) (held (reading_run m d budget).processed))
   run_never budget =
-      coherent_never m d f (held (run (system_of m d) budget).processed)
-      (part_coherent _ (held (log_of (run (system_of m d) budget))) (λ x. member_left x (run (system_of m d) budget).processed (run (system_of m d) budget).pending)
-      (derivation_coherent (system_of m d) lawful (system_opposed m l d) (log_of (run (system_of m d) budget)) (run_derives (system_of m d) lawful budget)))
+      coherent_never m d f (held (reading_run m d budget).processed)
+      (part_coherent _ (held (log_of (reading_run m d budget))) (λ x. member_left x (reading_run m d budget).processed (reading_run m d budget).pending)
+      (reading_coherent m l d p (log_of (reading_run m d budget)) (run_derives (system_of m d) (searches_of m d) (reading_lawful m l d p) budget)))
 
 -- the three answers by the two tests
 apart : {x y : Standing} → (standing_number x ≡ standing_number y → ⊥) → x ≡ y → ⊥

@@ -78,6 +78,16 @@ total_point (suc n) f g x w h e o = ⊎_elim (λ l. below l (total_point n f g x
         let last : g n ≡ f n + w = subst (λ z. g z ≡ f z + w) i e in
         omega arith
 
+-- the same where the others do not fall
+pub total_more : (n : ℕ) (f g : ℕ → ℕ) (x w : ℕ) → x < n → ((k : ℕ) → k < n → f k ≤ g k) → f x + w ≤ g x → total n f + w ≤ total n g
+unfolding total
+total_more zero f g x w h o e = absurd (not-suc-le-zero h)
+total_more (suc n) f g x w h o e =
+    ⊎_elim
+    (λ l. let m : total n f + w ≤ total n g = total_more n f g x w l (λ k b. o k (le_step b)) e in let i : f n ≤ g n = o n (le_refl (suc n)) in omega arith)
+    (λ i. let m : total n f ≤ total n g = total_le n f g (λ k b. o k (le_step b)) in let j : f n + w ≤ g n = subst (λ k. f k + w ≤ g k) i e in omega arith)
+    (lt_suc_cases x n h)
+
 pub weigh_true : (b : Bool) (n : ℕ) → T b → weigh b n ≡ n
 unfolding weigh
 weigh_true b n t = ap (λ c. cond c n 0) (true_of b t)

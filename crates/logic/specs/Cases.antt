@@ -1,12 +1,14 @@
--- Rows of theories with what a run of the plain reading gives: document 000's platypus and a row for each mistake that looks
--- natural. docs/PROOF.md says which wrong engines each row tells apart. The marked cases are rows over bytes, in crate report.
+-- Rows of theories with what a run gives, in the plain and then in the well-founded reading: document 000's platypus and a row for each mistake
+-- that looks natural. docs/PROOF.md says which wrong engines each row tells apart. The marked cases are rows over bytes, in crate report.
 use Rattle.std.specs.Prelude.{ℕ, Bool, true, false, List, [], ◌∷◌, map, eqb, length, get_or}
 use Rattle.logic.specs.Tests.{◌and◌, ◌or◌, isnt, upto}
 use Rattle.logic.specs.Theory.{Theory, Rule, Pair, Kind, strict, defeasible, defeater}
 use Rattle.logic.specs.System.{held}
-use Rattle.logic.specs.Worklist.{Outcome, log_of, worked, run}
-use Rattle.logic.specs.Reading.{tagged_by}
-use Rattle.logic.specs.Plain.{plain_system, bound}
+use Rattle.logic.specs.Worklist.{Outcome, log_of, worked}
+use Rattle.logic.specs.Reading.{Reading, tagged_by}
+use Rattle.logic.specs.Plain.{plain, bound}
+use Rattle.logic.specs.WellFounded.{well_founded, searched_bound}
+use Rattle.logic.specs.Laws.{reading_run}
 use Rattle.logic.specs.Verdict.{Verdict, clash, go, hold, idle, split, «open», verdict}
 
 unfoldable pub rule : Kind → ℕ → List ℕ → Rule
@@ -63,14 +65,15 @@ place_of «open» = 5
 unfoldable pub verdicts_of : Theory → List ℕ → List Verdict
 verdicts_of d l = map (verdict d (tagged_by 4 (held l))) (upto d.atoms)
 
-unfoldable pub gives : Row → Outcome → Bool
-gives r o =
+-- the row's numbers, by the reading's bound and the outcome of its run
+unfoldable pub gives : Row → ℕ → Outcome → Bool
+gives r most o =
     both o.finished r.finished and same_list (log_of o) r.log and eqb (worked o) r.worked and eqb o.spent r.spent
-    and eqb (bound r.given) r.most and same_list (map place_of (verdicts_of r.given (log_of o))) (map place_of r.verdicts)
+    and eqb most r.most and same_list (map place_of (verdicts_of r.given (log_of o))) (map place_of r.verdicts)
 
-unfoldable pub all_give : List Row → Bool
-all_give [] = true
-all_give (r ∷ rs) = gives r (run (plain_system r.given) r.budget) and all_give rs
+unfoldable pub all_give : Reading → (Theory → ℕ) → List Row → Bool
+all_give m most [] = true
+all_give m most (r ∷ rs) = gives r (most r.given) (reading_run m r.given r.budget) and all_give m most rs
 
 unfoldable pub rows : List Row
 rows =
@@ -123,6 +126,25 @@ rows =
     -- either, split.
     row (theory 2 [] (rule defeasible 2 (2 ∷ []) ∷ rule defeasible 0 (2 ∷ []) ∷ rule defeater 1 [] ∷ []) []) 19 true (1 ∷ 5 ∷ 9 ∷ 13 ∷ 3 ∷ 7 ∷ 15 ∷ []) 7 14 19 (split ∷ «open» ∷ []) ∷ []
 
+unfoldable pub searched_rows : List Row
+searched_rows =
+    -- 1. A rule from 0 to 0: the loop that is open in the plain reading is refuted. Both searches find nothing new at the end, and are paid.
+    row (theory 1 [] (rule defeasible 0 (0 ∷ []) ∷ []) []) 20 true (1 ∷ 5 ∷ 7 ∷ 3 ∷ []) 4 20 33 (idle ∷ []) ∷
+    -- 2. The same with one less: stopped before the last search, with every line processed.
+    row (theory 1 [] (rule defeasible 0 (0 ∷ []) ∷ []) []) 19 false (1 ∷ 5 ∷ 7 ∷ 3 ∷ []) 4 17 33 (idle ∷ []) ∷
+    -- 3. A strict rule from 0 to 0: the first search refutes it definitely; then it is made again, and only then the second.
+    row (theory 1 [] (rule strict 0 (0 ∷ []) ∷ []) []) 33 true (5 ∷ 7 ∷ 1 ∷ 3 ∷ []) 4 24 33 (idle ∷ []) ∷
+    -- 4. Rules for 0 and 1, and a rule from 0 to 0 over that for 1: the set is asked of the supporters alone. Were a supporter out by an antecedent
+    -- in the set where the attacker is asked for, −∂ of 0 would be written.
+    row (theory 1 [] (rule defeasible 0 [] ∷ rule defeasible 1 [] ∷ rule defeasible 0 (0 ∷ []) ∷ []) (over 2 1 ∷ [])) 62 true (1 ∷ 5 ∷ 7 ∷ []) 3 21 62 («open» ∷ []) ∷
+    -- 5. A fact 0: members of the second set must have −Δ, or −∂ of 0 would stand beside its +∂.
+    row (theory 1 (0 ∷ []) [] []) 22 true (0 ∷ 5 ∷ 2 ∷ 7 ∷ []) 4 10 22 (go ∷ []) ∷
+    -- 6. Nothing: the start and both searches are free.
+    row (theory 0 [] [] []) 0 true [] 0 0 0 [] ∷
+    -- 7. A strict rule for 1, and one from 0 to 0: once the first search has refuted 0 definitely, −∂ of 0 follows. Were the second search made
+    -- first, it would find nothing and be paid.
+    row (theory 1 [] (rule strict 1 [] ∷ rule strict 0 (0 ∷ []) ∷ []) []) 42 true (4 ∷ 6 ∷ 1 ∷ 3 ∷ []) 4 22 42 (hold ∷ []) ∷ []
+
 -- All rows hold: proofs/Answers.antt computes it.
 unfoldable pub cases_hold : Bool
-cases_hold = all_give rows
+cases_hold = all_give plain bound rows and all_give well_founded searched_bound searched_rows

@@ -17,6 +17,14 @@ abbrev pub +∂ : ℕ
 abbrev pub −∂ : ℕ
 −∂ = 3
 
+-- given the test of rules that have an antecedent refuted: "q is no fact, and each strict rule for q has" one; "each supporter has" one
+module _ (d : Theory) (out : ℕ → Bool) where
+  abbrev pub not_definitely_by : ℕ → Bool
+  not_definitely_by q = isnt (is_fact d q) and every d.rules (λ r. strict_for d r q implies out r)
+
+  abbrev pub unsupported_by : ℕ → Bool
+  unsupported_by q = every d.rules (λ r. supporter d r q implies out r)
+
 module _ (d : Theory) (holds : ℕ → ℕ → Bool) where
   -- all antecedents of a rule have the tag; one of them has it
   unfoldable pub all_have : ℕ → ℕ → Bool
@@ -31,7 +39,7 @@ module _ (d : Theory) (holds : ℕ → ℕ → Bool) where
 
   -- "−Δq: q is no fact, and each strict rule for q has an antecedent with −Δ held."
   abbrev pub not_definitely : ℕ → Bool
-  not_definitely q = isnt (is_fact d q) and every d.rules (λ r. strict_for d r q implies one_has −Δ r)
+  not_definitely q = not_definitely_by d (one_has −Δ) q
 
   -- "each attacker either has an antecedent with −∂ held, or is weaker by a listed pair than a supporter of q whose antecedents
   -- all have +∂ held"
@@ -53,13 +61,17 @@ module _ (d : Theory) (holds : ℕ → ℕ → Bool) where
 
   -- "each supporter has an antecedent with −∂ held": a literal without supporters is unsupported
   abbrev pub unsupported : ℕ → Bool
-  unsupported q = every d.rules (λ r. supporter d r q implies one_has −∂ r)
+  unsupported q = unsupported_by d (one_has −∂) q
 
-  -- "−∂q: −Δq is held, and one of:" it is unsupported; "+Δ of the complement is held; some attacker" is uncountered.
-  abbrev pub not_defeasibly : ℕ → Bool
-  not_defeasibly q =
+  -- "−∂q: −Δq is held, and one of:" it is unsupported; "+Δ of the complement is held; some attacker" is uncountered. The first of the three
+  -- is given by its test of rules.
+  abbrev pub not_defeasibly_by : (ℕ → Bool) → ℕ → Bool
+  not_defeasibly_by out q =
       holds q −Δ
-      and (unsupported q or holds (complement q) +Δ or some d.rules (λ s. attacker d s q and uncountered q s))
+      and (unsupported_by d out q or holds (complement q) +Δ or some d.rules (λ s. attacker d s q and uncountered q s))
+
+  abbrev pub not_defeasibly : ℕ → Bool
+  not_defeasibly q = not_defeasibly_by (one_has −∂) q
 
   -- the inference rule of each tag; there are no tags past 3
   unfoldable pub follows : ℕ → ℕ → Bool

@@ -1,11 +1,14 @@
 pub mod Tests
 pub mod Theory
+pub mod Largest
 pub mod Content
 pub mod Inference
+pub mod Unfounded
 pub mod System
 pub mod Worklist
 pub mod Reading
 pub mod Plain
+pub mod WellFounded
 pub mod Pairs
 pub mod Correspondence
 pub mod Laws

@@ -1,16 +1,20 @@
 -- A reading of theories, and the closure system that it makes of one: lines, candidates, visited rules and the price of
--- document 01, over the reading's number of tags and its inference rules.
+-- document 01, over the reading's number of tags and its inference rules; and its searches (document 02, S-9).
 use Rattle.std.specs.Prelude.{ℕ, ◌+◌, ◌*◌, ◌/◌, ◌%◌, Bool, List, [], ◌∷◌, ◌++◌, map, eqb}
 use Rattle.std.proofs.Math.ListN
 use Rattle.logic.specs.Tests.{◌and◌, ◌or◌, isnt, member, empty, total, weigh, count_below, upto, pick}
 use Rattle.logic.specs.Theory.{Theory, Pair, complement, is_strict, kind_of, head_of, body_of, size}
 use Rattle.logic.specs.Inference.{all_have, one_has}
-use Rattle.logic.specs.System.{System}
+use Rattle.logic.specs.System.{System, Searches, held}
+use Rattle.logic.specs.Largest.{largest}
 
 -- Tags come in families of two, 2f and its opposite 2f + 1. Family 0 is the definite one.
 pub record Reading : Type 0 where
   pub families : ℕ
   pub infer : Theory → (ℕ → ℕ → Bool) → ℕ → ℕ → Bool
+  -- the number of searches, and what each asks of a member of its set of literals, over what is held
+  pub searches : ℕ
+  pub fits : Theory → (ℕ → ℕ → Bool) → ℕ → (ℕ → Bool) → ℕ → Bool
 
 abbrev pub tags : Reading → ℕ
 tags m = 2 * m.families
@@ -79,4 +83,16 @@ system_of m d =
       cost = λ before after x.
           cost_of d (family_of (x % tags m)) (x / tags m) (tagged_by (tags m) before) (tagged_by (tags m) after);
       start = size d;
+    }
+
+-- the set of a search: the largest in which each literal fits
+abbrev pub set_of : Reading → Theory → (ℕ → ℕ → Bool) → ℕ → List ℕ
+set_of m d holds i = largest (λ l. m.fits d holds i (held l)) (2 * d.atoms)
+
+-- Search i refutes the members of its set in family i: "write −Δ for members", "write −∂ likewise".
+unfoldable pub searches_of : Reading → Theory → Searches
+searches_of m d =
+    record {
+      count = m.searches;
+      finds = λ i h x. eqb (x % tags m) (2 * i + 1) and member (x / tags m) (set_of m d (tagged_by (tags m) h) i);
     }

@@ -5,3 +5,4 @@ pub mod Deciding
 pub mod Api
 pub mod Indexing
 pub mod Visits
+pub mod Founding

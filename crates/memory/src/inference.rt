@@ -17,7 +17,7 @@ use table::format::Literal;
 use values::{both, either};
 
 // Whether tag t of the literal at an index is processed.
-fn is_processed(mem: &[u16], i: usize, t: usize) -> bool
+pub(crate) fn is_processed(mem: &[u16], i: usize, t: usize) -> bool
     requires { (i < field_size) × (t < tag_count) × (memory_size ≤ length mem.now) }
     ensures { result ≡ processed (view mem.now) i t }
 {
@@ -42,7 +42,7 @@ fn not_definitely(mem: &[u16], i: usize) -> bool
 }
 
 // The complement of literal q, as an index.
-fn other(q: u16) -> usize
+pub(crate) fn other(q: u16) -> usize
     ensures { result ≡ complement q }
 {
     let n = Literal(q).complement();

@@ -9,6 +9,7 @@ pub mod charging;
 mod counting;
 mod deciding;
 mod fields;
+pub mod founding;
 pub mod inference;
 pub mod layout;
 pub mod marks;

@@ -12,6 +12,14 @@ use crate::words::{load, store};
 use table::format::Sizes;
 use values::either;
 
+// Whether tag t of literal q is written.
+pub fn is_written(mem: &[u16], q: u16, t: u16) -> bool
+    requires { (q < field_size) × (t < tag_count) × (memory_size ≤ length mem.now) }
+    ensures { result ≡ written_of mem.now (tag_count * q + t) }
+{
+    load(mem, t as usize, q as usize) != 0
+}
+
 // Whether tag t of literal q is written, or tag t + 1.
 pub fn either_written(mem: &[u16], q: u16, t: u16) -> bool
     requires { (q < field_size) × (t < 3) × (memory_size ≤ length mem.now) }

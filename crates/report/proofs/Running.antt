@@ -15,7 +15,7 @@ use Rattle.logic.specs.System.{held}
 use Rattle.logic.specs.Worklist.{log_of, lines}
 use Rattle.logic.specs.Reading.{tagged_by}
 use Rattle.logic.specs.Standing.{NeverBoth}
-use Rattle.logic.specs.Plain.{plain, plain_system, bound}
+use Rattle.logic.specs.Plain.{plain, plain_system, no_searches, plain_run, bound}
 use Rattle.logic.specs.Demands.{Demands}
 use Rattle.logic.proofs.Tests.{cond_cases}
 use Rattle.logic.proofs.Standing.{derivation_never}
@@ -31,7 +31,8 @@ use Rattle.table.proofs.Legal.{legal, Limited, limited, ranged, all_entries, the
 use Rattle.engine.specs.declared.answer.Counts.{Counts}
 use Rattle.engine.specs.declared.answer.Answer.{Answer}
 use Rattle.engine.specs.declared.answer.Answer.TheVariants.{Refused, Stopped, Finished}
-use Rattle.engine.specs.Answers.{numbers_of, run_of, call_judgement, counts_in, answer_to, log_after, Ran}
+use Rattle.engine.specs.declared.reading.Reading.TheVariants.{Plain}
+use Rattle.engine.specs.Answers.{numbers_of, call_judgement, counts_in, answer_to, log_after, Ran}
 use Rattle.engine.proofs.answer.Numbering.{answer_is}
 use Rattle.engine.proofs.answer.Buffers.{proper_read, refused_table, full_log, long_enough}
 use Rattle.report.specs.Text.{decimal}
@@ -57,93 +58,93 @@ module _ (b : List ℕ) (s : Sizes) (e : Legal b s) where
   bound_small : budget_of (theory_in b s) < 100000
   bound_small = let l = few in omega (arith, bound_of, l.atoms, l.facts, l.rules, l.entries, l.pairs)
 
-  run_finished : T (run_of (theory_in b s) (budget_of (theory_in b s))).finished
+  run_finished : T (plain_run (theory_in b s) (budget_of (theory_in b s))).finished
   run_finished = plain_finishes (theory_in b s) (proper_read b s e) (budget_of (theory_in b s)) (le_refl (budget_of (theory_in b s)))
 
-  run_demands : Demands (plain_system (theory_in b s)) (bound (theory_in b s)) (5 * size (theory_in b s)) (budget_of (theory_in b s))
+  run_demands : Demands (plain_system (theory_in b s)) (no_searches (theory_in b s)) (bound (theory_in b s)) (5 * size (theory_in b s)) (budget_of (theory_in b s))
   run_demands = plain_demands (theory_in b s) (proper_read b s e) (budget_of (theory_in b s))
 
   sheet_short : length (sheet_by (Ok s) (theory_in b s)) ≤ 5041
   unfolding sheet_by theory_in
   sheet_short =
-      run_length (theory_in b s) (log_of (run_of (theory_in b s) (budget_of (theory_in b s)))) (run_of (theory_in b s) (budget_of (theory_in b s))).spent (budget_of (theory_in b s))
+      run_length (theory_in b s) (log_of (plain_run (theory_in b s) (budget_of (theory_in b s)))) (plain_run (theory_in b s) (budget_of (theory_in b s))).spent (budget_of (theory_in b s))
       (omega (arith, few.atoms)) (omega (arith, run_demands.within, bound_small)) bound_small
 
   -- the run under the bound, and the log that it left
   module _ (most : ℕ) (m : most ≡ 5 * s.atoms + s.facts + s.rules + 3 * s.entries + 3 * s.pairs) (log log' : List ℕ)
-      (w : log' ≡ log_of (run_of (theory_in b s) most) ++ drop (lines (run_of (theory_in b s) most)) log) where
-    whole : take (lines (run_of (theory_in b s) most)) log' ≡ log_of (run_of (theory_in b s) most)
+      (w : log' ≡ log_of (plain_run (theory_in b s) most) ++ drop (lines (plain_run (theory_in b s) most)) log) where
+    whole : take (lines (plain_run (theory_in b s) most)) log' ≡ log_of (plain_run (theory_in b s) most)
     whole =
-        ap (take (lines (run_of (theory_in b s) most))) w
-        ∙ take_at (log_of (run_of (theory_in b s) most)) (drop (lines (run_of (theory_in b s) most)) log) (lines (run_of (theory_in b s) most)) refl
+        ap (take (lines (plain_run (theory_in b s) most))) w
+        ∙ take_at (log_of (plain_run (theory_in b s) most)) (drop (lines (plain_run (theory_in b s) most)) log) (lines (plain_run (theory_in b s) most)) refl
 
-    run_fits : FitsRun (theory_in b s) most log' (counts_in (run_of (theory_in b s) most))
+    run_fits : FitsRun (theory_in b s) most log' (counts_in (plain_run (theory_in b s) most))
     run_fits =
         record {
-          lines = omega (arith, ap length w, length-append (log_of (run_of (theory_in b s) most)) (drop (lines (run_of (theory_in b s) most)) log));
+          lines = omega (arith, ap length w, length-append (log_of (plain_run (theory_in b s) most)) (drop (lines (plain_run (theory_in b s) most)) log));
           never = subst (λ l. NeverBoth (theory_in b s) 1 (tagged_by 4 (held l))) (sym whole) never;
           spent = omega (arith, demands.within, m, bound_of, bound_small);
           most = omega (arith, m, bound_of, bound_small);
         }
       where
-        demands : Demands (plain_system (theory_in b s)) (bound (theory_in b s)) (5 * size (theory_in b s)) most
+        demands : Demands (plain_system (theory_in b s)) (no_searches (theory_in b s)) (bound (theory_in b s)) (5 * size (theory_in b s)) most
         demands = plain_demands (theory_in b s) (proper_read b s e) most
 
-        never : NeverBoth (theory_in b s) 1 (tagged_by 4 (held (log_of (run_of (theory_in b s) most))))
-        never = derivation_never plain plain_rules (theory_in b s) (proper_read b s e) 1 (log_of (run_of (theory_in b s) most)) demands.is_derivation
+        never : NeverBoth (theory_in b s) 1 (tagged_by 4 (held (log_of (plain_run (theory_in b s) most))))
+        never = derivation_never plain plain_rules (theory_in b s) (proper_read b s e) 1 (log_of (plain_run (theory_in b s) most)) demands.is_derivation
 
-    run_sheet_lem : run_sheet (theory_in b s) (take (lines (run_of (theory_in b s) most)) log') (run_of (theory_in b s) most).spent most ≡ sheet_by (Ok s) (theory_in b s)
+    run_sheet_lem : run_sheet (theory_in b s) (take (lines (plain_run (theory_in b s) most)) log') (plain_run (theory_in b s) most).spent most ≡ sheet_by (Ok s) (theory_in b s)
     unfolding sheet_by
     run_sheet_lem =
-        ap (λ l. run_sheet (theory_in b s) l (run_of (theory_in b s) most).spent most) whole
-        ∙ ap (λ k. run_sheet (theory_in b s) (log_of (run_of (theory_in b s) k)) (run_of (theory_in b s) k).spent k) (m ∙ sym bound_of)
+        ap (λ l. run_sheet (theory_in b s) l (plain_run (theory_in b s) most).spent most) whole
+        ∙ ap (λ k. run_sheet (theory_in b s) (log_of (plain_run (theory_in b s) k)) (plain_run (theory_in b s) k).spent k) (m ∙ sym bound_of)
 
 -- the answer of a run with buffers that are long enough
 module _ {log log' scratch scratch' : List ℕ} (a : Answer) {most : ℕ} (k : length log ≡ 2048) (l : length scratch ≡ 32768) where
-  refused_sheet_lem : (n : Refusal) (d : Theory) (b : List ℕ) (s : Sizes) → Ran (Err n) d most log log' scratch scratch' (numbers_of a)
+  refused_sheet_lem : (n : Refusal) (d : Theory) (b : List ℕ) (s : Sizes) → Ran Plain (Err n) d most log log' scratch scratch' (numbers_of a)
       → (sheet_to d most log' a ≡ sheet_by (Err n) d) × Fits b s most log' a
   unfolding answer_to sheet_to sheet_by Fits
   refused_sheet_lem n d b s r =
       subst (λ x. (sheet_to d most log' x ≡ sheet_by (Err n) d) × Fits b s most log' x) (sym same) (refl, tt)
     where
       same : a ≡ Refused n
-      same = answer_is r ∙ ap (λ j. answer_to j (run_of d most)) (refused_table d most (length scratch) (length log) n)
+      same = answer_is r ∙ ap (λ j. answer_to j (plain_run d most)) (refused_table Plain d most (length scratch) (length log) n)
 
   accepted_sheet : (b : List ℕ) (s : Sizes) → Legal b s → most ≡ 5 * s.atoms + s.facts + s.rules + 3 * s.entries + 3 * s.pairs
-      → Ran (Ok s) (theory_in b s) most log log' scratch scratch' (numbers_of a)
+      → Ran Plain (Ok s) (theory_in b s) most log log' scratch scratch' (numbers_of a)
       → (sheet_to (theory_in b s) most log' a ≡ sheet_by (Ok s) (theory_in b s)) × Fits b s most log' a
   unfolding answer_to log_after sheet_to sheet_by Fits
   accepted_sheet b s e m r =
       subst (λ x. (sheet_to (theory_in b s) most log' x ≡ sheet_by (Ok s) (theory_in b s)) × Fits b s most log' x) (sym same)
       (cond_cases (λ x. (sheet_to (theory_in b s) most log' x ≡ sheet_by (Ok s) (theory_in b s)) × Fits b s most log' x)
-      (run_of (theory_in b s) most).finished (Finished (counts_in (run_of (theory_in b s) most))) (Stopped (counts_in (run_of (theory_in b s) most))) (λ _. both) (λ _. both))
+      (plain_run (theory_in b s) most).finished (Finished (counts_in (plain_run (theory_in b s) most))) (Stopped (counts_in (plain_run (theory_in b s) most))) (λ _. both) (λ _. both))
     where
-      room : call_judgement (Ok s) (theory_in b s) most (length scratch) (length log) ≡ Ok s
-      room = long_enough b s e most (length log) (length scratch) (omega arith) (full_log b s e most (length log) (omega (arith, (few b s e).atoms)))
+      room : call_judgement (Ok s) Plain (theory_in b s) most (length scratch) (length log) ≡ Ok s
+      room = long_enough Plain b s e most (length log) (length scratch) (omega arith) (full_log Plain b s e most (length log) (omega (arith, (few b s e).atoms)))
 
-      same : a ≡ cond (run_of (theory_in b s) most).finished (Finished (counts_in (run_of (theory_in b s) most))) (Stopped (counts_in (run_of (theory_in b s) most)))
-      same = answer_is r ∙ ap (λ j. answer_to j (run_of (theory_in b s) most)) room
+      same : a ≡ cond (plain_run (theory_in b s) most).finished (Finished (counts_in (plain_run (theory_in b s) most))) (Stopped (counts_in (plain_run (theory_in b s) most)))
+      same = answer_is r ∙ ap (λ j. answer_to j (plain_run (theory_in b s) most)) room
 
-      written : log' ≡ log_of (run_of (theory_in b s) most) ++ drop (lines (run_of (theory_in b s) most)) log
-      written = r.written ∙ ap (λ j. log_after j (run_of (theory_in b s) most) log) room
+      written : log' ≡ log_of (plain_run (theory_in b s) most) ++ drop (lines (plain_run (theory_in b s) most)) log
+      written = r.written ∙ ap (λ j. log_after j (plain_run (theory_in b s) most) log) room
 
-      both : (run_sheet (theory_in b s) (take (lines (run_of (theory_in b s) most)) log') (run_of (theory_in b s) most).spent most ≡ sheet_by (Ok s) (theory_in b s))
-          × (Legal b s × FitsRun (theory_in b s) most log' (counts_in (run_of (theory_in b s) most)))
+      both : (run_sheet (theory_in b s) (take (lines (plain_run (theory_in b s) most)) log') (plain_run (theory_in b s) most).spent most ≡ sheet_by (Ok s) (theory_in b s))
+          × (Legal b s × FitsRun (theory_in b s) most log' (counts_in (plain_run (theory_in b s) most)))
       both = (run_sheet_lem b s e most m log log' written, (e, run_fits b s e most m log log' written))
 
   -- of a table in the old layout
-  module _ (b : List ℕ) (r : Ran (judgement_of Old b) (theory_of Old b) most log log' scratch scratch' (numbers_of a)) where
+  module _ (b : List ℕ) (r : Ran Plain (judgement_of Old b) (theory_of Old b) most log log' scratch scratch' (numbers_of a)) where
     by_judgement : (s : Sizes) → s ≡ sizes_of (layout_of Old b) → most ≡ 5 * s.atoms + s.facts + s.rules + 3 * s.entries + 3 * s.pairs → (j : Judgement) → judgement_of Old b ≡ j
         → (sheet_to (theory_in (layout_of Old b) s) most log' a ≡ sheet_by j (theory_of Old b)) × Fits (layout_of Old b) s most log' a
     by_judgement s z m (Err n) e =
         subst (λ d. (sheet_to d most log' a ≡ sheet_by (Err n) (theory_of Old b)) × Fits (layout_of Old b) s most log' a) (ap (theory_in (layout_of Old b)) (sym z))
-        (refused_sheet_lem n (theory_of Old b) (layout_of Old b) s (subst (λ j. Ran j (theory_of Old b) most log log' scratch scratch' (numbers_of a)) e r))
+        (refused_sheet_lem n (theory_of Old b) (layout_of Old b) s (subst (λ j. Ran Plain j (theory_of Old b) most log log' scratch scratch' (numbers_of a)) e r))
     by_judgement s z m (Ok t) e =
         subst (λ d. (sheet_to (theory_in (layout_of Old b) s) most log' a ≡ sheet_by (Ok t) d) × Fits (layout_of Old b) s most log' a) (theory_read Old b t e)
         (subst (λ x. (sheet_to (theory_in (layout_of Old b) x) most log' a ≡ sheet_by (Ok t) (theory_in (layout_of Old b) t)) × Fits (layout_of Old b) x most log' a) (sym read)
         (accepted_sheet (layout_of Old b) t (legal Old b t e) (subst (λ x. most ≡ 5 * x.atoms + x.facts + x.rules + 3 * x.entries + 3 * x.pairs) read m)
-        (subst (λ j. Ran j (theory_in (layout_of Old b) t) most log log' scratch scratch' (numbers_of a)) e
-        (subst (λ d. Ran (judgement_of Old b) d most log log' scratch scratch' (numbers_of a)) (sym (theory_read Old b t e)) r))))
+        (subst (λ j. Ran Plain j (theory_in (layout_of Old b) t) most log log' scratch scratch' (numbers_of a)) e
+        (subst (λ d. Ran Plain (judgement_of Old b) d most log log' scratch scratch' (numbers_of a)) (sym (theory_read Old b t e)) r))))
       where
         read : s ≡ t
         read = z ∙ (legal Old b t e).read
@@ -189,9 +190,9 @@ printed b out r p =
       count = omega (arith, p.end);
       most = omega (arith, p.end, sheet_length b (judgement_of Old b) refl);
       fits = (inside, sym (length-take-le r out inside));
-      finished = λ s e. subst (λ d. T (run_of d (budget_of d)).finished) (theory_read Old b s e) (run_finished (layout_of Old b) s (legal Old b s e));
+      finished = λ s e. subst (λ d. T (plain_run d (budget_of d)).finished) (theory_read Old b s e) (run_finished (layout_of Old b) s (legal Old b s e));
       demands =
-          λ s e. subst (λ d. Demands (plain_system d) (bound d) (5 * size d) (budget_of d)) (theory_read Old b s e) (run_demands (layout_of Old b) s (legal Old b s e));
+          λ s e. subst (λ d. Demands (plain_system d) (no_searches d) (bound d) (5 * size d) (budget_of d)) (theory_read Old b s e) (run_demands (layout_of Old b) s (legal Old b s e));
     }
   where
     whole : length out ≡ 5041

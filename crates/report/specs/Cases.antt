@@ -5,11 +5,13 @@ use Rattle.logic.specs.Tests.{◌and◌, upto}
 use Rattle.logic.specs.Verdict.{Verdict, clash, go, split, «open»}
 use Rattle.logic.specs.Cases.{same_list}
 use Rattle.logic.specs.Theory.{Theory}
+use Rattle.logic.specs.Plain.{plain_run}
 use Rattle.table.specs.declared.edition.Edition.TheVariants.{Old}
 use Rattle.table.specs.Format.{theory_of}
 use Rattle.table.specs.Refusals.{Judgement, judgement_of}
 use Rattle.engine.specs.declared.answer.Numbers.{Numbers}
-use Rattle.engine.specs.Answers.{numbers_of, run_of, call_judgement, answer_to, log_after}
+use Rattle.engine.specs.declared.reading.Reading.TheVariants.{Plain}
+use Rattle.engine.specs.Answers.{numbers_of, call_judgement, answer_to, log_after}
 use Rattle.report.specs.Text.{word_of, space}
 use Rattle.report.specs.Sheet.{verdict_in, budget_of, sheet_of}
 
@@ -54,12 +56,12 @@ same_numbers r n =
 -- are 9 after.
 unfoldable pub gives_by : Row → Theory → Judgement → Bool
 gives_by r d j =
-    same_numbers r (numbers_of (answer_to j (run_of d r.budget)))
-    and same_list (log_after j (run_of d r.budget) (replicate r.log 9)) (r.lines ++ replicate (r.log - length r.lines) 9)
+    same_numbers r (numbers_of (answer_to j (plain_run d r.budget)))
+    and same_list (log_after j (plain_run d r.budget) (replicate r.log 9)) (r.lines ++ replicate (r.log - length r.lines) 9)
     and eqb (budget_of d) r.most and same_list (words_of (verdicts_of j d r.lines)) (words_of r.verdicts)
 
 unfoldable pub gives : Row → List ℕ → Bool
-gives r b = gives_by r (theory_of Old b) (call_judgement (judgement_of Old b) (theory_of Old b) r.budget r.scratch r.log)
+gives r b = gives_by r (theory_of Old b) (call_judgement (judgement_of Old b) Plain (theory_of Old b) r.budget r.scratch r.log)
 
 unfoldable pub all_give : List Row → Bool
 all_give [] = true

@@ -5,14 +5,13 @@ use Rattle.logic.specs.Theory.{Theory, size}
 use Rattle.logic.specs.System.{held}
 use Rattle.logic.specs.Worklist.{log_of}
 use Rattle.logic.specs.Reading.{tagged_by}
-use Rattle.logic.specs.Plain.{plain_system, bound}
+use Rattle.logic.specs.Plain.{plain_system, no_searches, plain_run, bound}
 use Rattle.logic.specs.Demands.{Demands}
 use Rattle.logic.specs.Verdict.{Verdict, verdict}
 use Rattle.table.specs.declared.format.Sizes.{Sizes}
 use Rattle.table.specs.declared.edition.Edition.TheVariants.{Old}
 use Rattle.table.specs.Format.{theory_of}
 use Rattle.table.specs.Refusals.{Judgement, number_of, judgement_of}
-use Rattle.engine.specs.Answers.{run_of}
 use Rattle.report.specs.Text.{decimal, word_of, atoms_word, spent_word, of_word, refused_word, space, newline}
 
 -- the verdict of an atom of a theory by the lines of a log
@@ -47,7 +46,7 @@ abbrev pub budget_of : Theory → ℕ
 budget_of d = bound d
 
 unfoldable pub sheet_by : Judgement → Theory → List ℕ
-sheet_by (Ok s) d = run_sheet d (log_of (run_of d (budget_of d))) (run_of d (budget_of d)).spent (bound d)
+sheet_by (Ok s) d = run_sheet d (log_of (plain_run d (budget_of d))) (plain_run d (budget_of d)).spent (bound d)
 sheet_by (Err n) d = refused_sheet (number_of n)
 
 abbrev pub sheet_of : List ℕ → List ℕ
@@ -61,6 +60,6 @@ pub record Printed (b bytes : List ℕ) (n : ℕ) : Type 0 where
   pub most : n ≤ 5041
   -- the part `&bytes[..n]` is there (it follows; a caller's proof finds it in this form)
   pub fits : (n ≤ length bytes) × (n ≡ length (take n bytes))
-  pub finished : (s : Sizes) → judgement_of Old b ≡ Ok s → T (run_of (theory_of Old b) (budget_of (theory_of Old b))).finished
+  pub finished : (s : Sizes) → judgement_of Old b ≡ Ok s → T (plain_run (theory_of Old b) (budget_of (theory_of Old b))).finished
   pub demands : (s : Sizes) → judgement_of Old b ≡ Ok s
-      → Demands (plain_system (theory_of Old b)) (bound (theory_of Old b)) (5 * size (theory_of Old b)) (budget_of (theory_of Old b))
+      → Demands (plain_system (theory_of Old b)) (no_searches (theory_of Old b)) (bound (theory_of Old b)) (5 * size (theory_of Old b)) (budget_of (theory_of Old b))

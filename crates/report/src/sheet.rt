@@ -1,4 +1,5 @@
-// Document 01, The sheet: a table in the old layout (document 02, S-5) judged, run with the bound as budget, and printed into an array.
+// Document 01, The sheet: a table in the old layout (document 02, S-5) judged, run in the plain reading with the bound as budget, and
+// printed into an array.
 ghost use Rattle.std.specs.Prelude.{◌+◌, ◌*◌, ◌≤◌, ◌≡◌, length, take};
 ghost use Rattle.logic.specs.Tests.{isnt};
 ghost use Rattle.logic.specs.Reading.{tagged_by};
@@ -14,6 +15,7 @@ use crate::support::supported_of;
 use crate::verdict::{Verdict, verdict_of, word};
 use content::readers::sizes_of;
 use engine::answer::{Answer, Counts};
+use engine::reading::Reading;
 use engine::run::{SCRATCH, run};
 use standing::marks::marks_of;
 use table::accepted::Table;
@@ -126,7 +128,14 @@ impl Sheet {
         let most = bound_of(sizes);
         let mut log = [0u16; 4 * Sizes::MAX_ATOMS as usize];
         let mut scratch = [0u16; SCRATCH];
-        match run(table, Edition::Old, most, &mut log, &mut scratch) {
+        match run(
+            table,
+            Edition::Old,
+            Reading::Plain,
+            most,
+            &mut log,
+            &mut scratch,
+        ) {
             Answer::Refused(why) => self.put_refused(why),
             Answer::Stopped(c) | Answer::Finished(c) => {
                 self.put_run(Table { layout, sizes }, &log, c, most)

@@ -14,7 +14,9 @@ use Rattle.table.proofs.Numbers.{number_range, numbered, numbered_back}
 use Rattle.engine.specs.declared.answer.Numbers.{Numbers}
 use Rattle.engine.specs.declared.answer.Answer.{Answer}
 use Rattle.engine.specs.declared.answer.Answer.TheVariants.{Refused, Stopped, Finished}
-use Rattle.engine.specs.Answers.{numbers_of, run_of, call_judgement, answer_to, Ran}
+use Rattle.engine.specs.declared.reading.Reading.{Reading}
+use Rattle.engine.specs.Readings.{run_of}
+use Rattle.engine.specs.Answers.{numbers_of, call_judgement, answer_to, Ran}
 
 -- the answer that has these numbers
 answer_in : Numbers → Answer
@@ -35,6 +37,6 @@ pub one_answer : (a z : Answer) → numbers_of a ≡ numbers_of z → a ≡ z
 one_answer a z e = sym (answer_back a) ∙ ap answer_in e ∙ answer_back z
 
 -- a run's answer by its contract
-pub answer_is : {j : Judgement} {d : Theory} {log log' scratch scratch' : List ℕ} {budget : ℕ} {a : Answer} → Ran j d budget log log' scratch scratch' (numbers_of a)
-    → a ≡ answer_to (call_judgement j d budget (length scratch) (length log)) (run_of d budget)
+pub answer_is : {m : Reading} {j : Judgement} {d : Theory} {log log' scratch scratch' : List ℕ} {budget : ℕ} {a : Answer} → Ran m j d budget log log' scratch scratch' (numbers_of a)
+    → a ≡ answer_to (call_judgement j m d budget (length scratch) (length log)) (run_of m d budget)
 answer_is r = one_answer _ _ r.answer

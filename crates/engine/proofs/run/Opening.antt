@@ -23,8 +23,7 @@ use Rattle.memory.specs.Layout.{tag_count}
 use Rattle.memory.specs.Memory.{held_of}
 use Rattle.memory.specs.Api.{adds, Added, Prepared}
 use Rattle.engine.specs.Working.{Blank, Logged, Tried, Opened, Processed, family_if}
-use Rattle.engine.proofs.run.Trying.{tried_literals, tried_none, tried_same, with_tags_append}
-use Rattle.memory.proofs.Views.{kept_then}
+use Rattle.engine.proofs.run.Trying.{grown_after, tried_literals, tried_none, tried_same, with_tags_append}
 
 -- every conclusion below 4 m, by literal, then tag
 with_tags_upto : (m : ℕ) → with_tags tag_count (upto m) ≡ upto (tag_count * m)
@@ -78,10 +77,8 @@ module _ (d : Theory) (mem₀ log₀ : List ℕ) (k : Blank d mem₀) where
         lines =
             f.lines ∙ ap (λ h. grow (plain_system d) h [] [] (with_tags tag_count (upto q))) (fun_ext k.none)
             ∙ ap (grow (plain_system d) (held []) [] []) (with_tags_upto q ∙ ap (λ z. upto (tag_count * z)) e) ∙ grow_pick (plain_system d) (held []) (tag_count * (2 * d.atoms));
-        past = f.past;
-        size = f.size;
+        grown = f.grown;
         held = f.held;
-        kept = f.kept;
       }
 
 -- the lines of a memory that was prepared
@@ -103,9 +100,6 @@ processed {d} {m} {m₁} {l} {m₂} {l₂} {m₃} {l₃} {n} {n₂} {n₃} x a f
       lines =
           t.lines ∙ ap (λ h. grow (plain_system d) h [] (take n l) (with_tags tag_count (candidates d (family_if (ltb (x % tag_count) 2)) (x / tag_count)))) (fun_ext a.held)
           ∙ ap (λ j. grow (plain_system d) (adds (held_of m) x) [] (take n l) (with_tags tag_count (candidates d j (x / tag_count)))) (family_of_lem (x % tag_count) (mod-lt x (omega arith)));
-      past = t.past;
-      more = t.more;
-      size = t.size;
+      grown = grown_after a.kept t.grown;
       held = λ y. t.held y ∙ a.held y;
-      kept = kept_then a.kept t.kept;
     }

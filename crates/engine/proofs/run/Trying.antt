@@ -16,20 +16,21 @@ use Rattle.logic.specs.System.{System, held, Coherent, derivation}
 use Rattle.logic.specs.Worklist.{put, grow}
 use Rattle.logic.specs.Reading.{system_of, with_tags, conclusion}
 use Rattle.logic.specs.Plain.{plain_system}
+use Rattle.logic.specs.WellFounded.{unfounded_searches}
 use Rattle.logic.proofs.Tests.{and_intro, and_left, and_right, false_of, isnt_elim, isnt_intro, of_false, of_true, or_elim, or_left, or_right, test_cases}
 use Rattle.logic.proofs.Lists.{distinct_snoc, member_last, member_left, member_more}
-use Rattle.logic.proofs.Derivations.{derivation_snoc, derives_all_below, monotone}
-use Rattle.logic.proofs.Coherence.{coherent_length, part_coherent}
+use Rattle.logic.proofs.Derivations.{derivation_snoc, monotone}
+use Rattle.logic.proofs.Coherence.{part_coherent}
 use Rattle.logic.proofs.Runs.{grow_append}
-use Rattle.logic.proofs.Plain.{plain_coherent, plain_lawful}
+use Rattle.logic.proofs.WellFounded.{searched_lawful, searched_coherent, searched_length}
 use Rattle.table.specs.declared.accepted.Table.{Table}
 use Rattle.table.specs.Tables.{theory_said}
 use Rattle.table.specs.Format.{theory_in}
 use Rattle.table.proofs.Legal.{Limited, limited, ranged, proper_theory}
 use Rattle.memory.specs.Layout.{tag_count}
 use Rattle.memory.specs.Memory.{held_of, written_of}
-use Rattle.memory.specs.Api.{adds, Wrote}
-use Rattle.engine.specs.Working.{Logged, Tried}
+use Rattle.memory.specs.Api.{adds, Wrote, Kept}
+use Rattle.engine.specs.Working.{Logged, Yielded, Grown, Tried, Appended}
 use Rattle.memory.proofs.Views.{kept_none, kept_then}
 use Rattle.memory.proofs.visit.Marks.{held_written}
 
@@ -49,6 +50,27 @@ module _ (table : Table) where
   pub proper_in : T (proper (theory_said table))
   proper_in = proper_theory table.layout.now table.sizes (ranged table.layout.now table.sizes table.legal.ranges)
 
+pub drop_further : (n k : ℕ) (l m : List ℕ) → n ≤ k → drop n l ≡ drop n m → drop k l ≡ drop k m
+drop_further n k l m h e =
+    let f : n + (k - n) ≡ k = omega arith in
+    ap (λ i. drop i l) (sym f) ∙ sym (drop-drop (k - n) n l) ∙ ap (drop (k - n)) e ∙ drop-drop (k - n) n m ∙ ap (λ i. drop i m) f
+
+-- nothing has grown, growth goes on, and it is growth since the memory changed before
+pub grown_none : (mem log : List ℕ) (n : ℕ) → Grown mem log n mem log n
+grown_none mem log n = record { past = refl; more = le_refl n; size = refl; kept = kept_none mem }
+
+pub grown_on : {m l m' l' m'' l'' : List ℕ} {n n' n'' : ℕ} → Grown m l n m' l' n' → Grown m' l' n' m'' l'' n'' → Grown m l n m'' l'' n''
+grown_on {l = l} {l' = l'} {n' = n'} {n'' = n''} f g =
+    record {
+      past = g.past ∙ drop_further n' n'' l' l g.more f.past;
+      more = le_trans f.more g.more;
+      size = g.size ∙ f.size;
+      kept = kept_then f.kept g.kept;
+    }
+
+pub grown_after : {m m₁ l m' l' : List ℕ} {n n' : ℕ} → Kept m m₁ → Grown m₁ l n m' l' n' → Grown m l n m' l' n'
+grown_after k g = record { past = g.past; more = g.more; size = g.size; kept = kept_then k g.kept }
+
 put_stays : (b : Bool) (l : List ℕ) (x : ℕ) → (T b → ⊥) → put b l x ≡ l
 unfolding put
 put_stays true l x n = absurd (n tt)
@@ -61,11 +83,8 @@ put_adds false l x t = absurd t
 
 module _ (d : Theory) (p : T (proper d)) where
   -- a derivation without repeats has at most 4A lines
-  pub good_length : (l : List ℕ) → T (derivation (plain_system d) l) → T (distinct l) → length l ≤ tag_count * d.atoms
-  unfolding system_of
-  good_length l t o =
-      coherent_length (tag_count * d.atoms) l o
-      (λ x m. let b : x < tag_count * (2 * d.atoms) = derives_all_below (plain_system d) [] l t x m in omega arith) (plain_coherent d p l t)
+  pub good_length : (l : List ℕ) → T (derivation (plain_system d) (unfounded_searches d) l) → T (distinct l) → length l ≤ tag_count * d.atoms
+  good_length = searched_length d p
 
   pub lines_most : (m l : List ℕ) (n : ℕ) → Logged d m l n → n ≤ tag_count * d.atoms
   lines_most m l n g = omega (arith, good_length (take n l) g.derives g.once, length-take-le n l g.inside)
@@ -77,24 +96,25 @@ module _ (d : Theory) (p : T (proper d)) where
       record {
         logged = g;
         lines = sym (put_stays _ (take n l) x (λ t. isnt_elim _ (and_right _ _ t) (o (and_left _ _ t))));
-        past = refl;
-        more = le_refl n;
-        size = refl;
+        grown = grown_none m l n;
         held = λ _. refl;
-        kept = kept_none m;
       }
 
-  -- the lines with a conclusion that follows are a derivation, so its opposite is no line
-  line_derives : (m l : List ℕ) (n x : ℕ) → Logged d m l n → x < tag_count * (2 * d.atoms) → T ((plain_system d).infers (held_of m) x) → T (derivation (plain_system d) (take n l ++ (x ∷ [])))
+  -- what follows from what is processed is yielded by the lines
+  line_yields : (m l : List ℕ) (n x : ℕ) → Logged d m l n → T ((plain_system d).infers (held_of m) x) → Yielded d l n x
+  line_yields m l n x g t =
+      or_left _ _ (monotone (plain_system d) (unfounded_searches d) (searched_lawful d p) (held_of m) (held (take n l)) x (λ y u. subst T (g.written y) (held_written m y u)) t)
+
+  -- the lines with what they yield are a derivation, so its opposite is no line
+  line_derives : (m l : List ℕ) (n x : ℕ) → Logged d m l n → x < tag_count * (2 * d.atoms) → Yielded d l n x
+      → T (derivation (plain_system d) (unfounded_searches d) (take n l ++ (x ∷ [])))
   unfolding system_of
-  line_derives m l n x g small t =
-      derivation_snoc (plain_system d) (take n l) x g.derives (omega arith)
-      (monotone (plain_system d) (plain_lawful d p) (held_of m) (held (take n l)) x (λ y u. subst T (g.written y) (held_written m y u)) t)
+  line_derives m l n x g small t = derivation_snoc (plain_system d) (unfounded_searches d) (take n l) x g.derives (omega arith) t
 
   opposite_never : (m l : List ℕ) (n x y : ℕ) → Logged d m l n → x < tag_count * (2 * d.atoms) → y ≡ complement x → T (member y (take n l)) → T ((plain_system d).infers (held_of m) x) → ⊥
   unfolding Coherent
   opposite_never m l n x y g small e o t =
-      plain_coherent d p (take n l ++ (x ∷ [])) (line_derives m l n x g small t) x (member_last (take n l) x)
+      searched_coherent d p (take n l ++ (x ∷ [])) (line_derives m l n x g small (line_yields m l n x g t)) x (member_last (take n l) x)
       (subst (λ z. T (member z (take n l ++ (x ∷ [])))) e (member_left y (take n l) (x ∷ []) o))
 
   -- so what is processed, with a line that is next, holds no conclusion beside its opposite
@@ -102,19 +122,20 @@ module _ (d : Theory) (p : T (proper d)) where
   next_coherent m l n x g e =
       part_coherent (adds (held_of m) x) (held (take n l))
       (λ y u. ⊎_elim (λ v. subst T (g.written y) (held_written m y v)) (λ v. subst (λ z. T (member z (take n l))) (sym (eqb→eq y x v)) (subst T (g.written x) (of_true _ e))) (or_elim _ _ u))
-      (plain_coherent d p (take n l) g.derives)
+      (searched_coherent d p (take n l) g.derives)
 
   -- a conclusion is not tried if it or its opposite is written
   pub skips_opposed : (m l : List ℕ) (n x y : ℕ) → Logged d m l n → x < tag_count * (2 * d.atoms) → y ≡ complement x → T (written_of m x) ⊎ T (written_of m y) → Tried d (x ∷ []) m l n m l n
   skips_opposed m l n x y g small e w =
       skips m l n x g (λ t. ⊎_elim (λ u. subst T (g.written x) u) (λ u. absurd (opposite_never m l n x y g small e (subst T (g.written y) u) t)) w)
 
-  -- a conclusion that follows and is not written goes to the end of the log
-  module _ (m l : List ℕ) (n x : ℕ) (g : Logged d m l n) (small : x < tag_count * (2 * d.atoms)) (new : written_of m x ≡ false) (t : T ((plain_system d).infers (held_of m) x)) where
-    absent : T (member x (take n l)) → ⊥
+  -- a conclusion that the lines yield and that is not written goes to the end of the log
+  module _ (m l : List ℕ) (n x : ℕ) (g : Logged d m l n) (small : x < tag_count * (2 * d.atoms)) (new : written_of m x ≡ false)
+      (t : Yielded d l n x) where
+    pub absent : T (member x (take n l)) → ⊥
     absent u = of_false _ new (subst T (sym (g.written x)) u)
 
-    derives_more : T (derivation (plain_system d) (take n l ++ (x ∷ [])))
+    derives_more : T (derivation (plain_system d) (unfounded_searches d) (take n l ++ (x ∷ [])))
     derives_more = line_derives m l n x g small t
 
     once_more : T (distinct (take n l ++ (x ∷ [])))
@@ -130,41 +151,44 @@ module _ (d : Theory) (p : T (proper d)) where
     taken : take (n + 1) (set l n x) ≡ take n l ++ (x ∷ [])
     taken = ap (λ k. take k (set l n x)) (add-one n) ∙ take-suc-set l n x fits_log
 
-    pub writes : (m' : List ℕ) → Wrote d x m m' → Tried d (x ∷ []) m l n m' (set l n x) (n + 1)
-    unfolding grow
-    writes m' w =
+    pub appends : (m' : List ℕ) → Wrote d x m m' → Appended d x m l n m' (set l n x) (n + 1)
+    appends m' w =
         record {
           logged =
               record {
                 ready = w.ready;
                 written = λ y. w.written y ∙ ap (λ b. b or eqb y x) (g.written y) ∙ member_more (take n l) x y ∙ ap (member y) (sym taken);
-                derives = subst (λ k. T (derivation (plain_system d) k)) (sym taken) derives_more;
+                derives = subst (λ k. T (derivation (plain_system d) (unfounded_searches d) k)) (sym taken) derives_more;
                 once = subst (λ k. T (distinct k)) (sym taken) once_more;
                 inside = omega (arith, fits_log, length-set l n x);
                 room = omega (arith, g.room, length-set l n x);
               };
-          lines = taken ∙ sym (put_adds _ (take n l) x (and_intro _ _ t (isnt_intro _ absent)));
-          past = drop-set-lt (n + 1) l n x (omega arith);
-          more = omega arith;
-          size = length-set l n x;
+          lines = taken;
+          grown = record { past = drop-set-lt (n + 1) l n x (omega arith); more = omega arith; size = length-set l n x; kept = w.kept };
           held = w.same;
-          kept = w.kept;
         }
+
+  -- one that follows from what is processed
+  pub writes : (m l : List ℕ) (n x : ℕ) → Logged d m l n → x < tag_count * (2 * d.atoms) → written_of m x ≡ false → T ((plain_system d).infers (held_of m) x)
+      → {m' l' : List ℕ} {n' : ℕ} → Appended d x m l n m' l' n' → Tried d (x ∷ []) m l n m' l' n'
+  unfolding grow
+  writes m l n x g small new t a =
+      record {
+        logged = a.logged;
+        lines = a.lines ∙ sym (put_adds _ (take n l) x (and_intro _ _ t (isnt_intro _ (absent m l n x g small new (line_yields m l n x g t)))));
+        grown = a.grown;
+        held = a.held;
+      }
 
 -- the same held, as functions
 grow_held : (s : System) (h k : ℕ → Bool) → ((x : ℕ) → h x ≡ k x) → (l cs : List ℕ) → grow s h [] l cs ≡ grow s k [] l cs
 grow_held s h k f l cs = ap (λ j. grow s j [] l cs) (fun_ext f)
 
-pub drop_further : (n k : ℕ) (l m : List ℕ) → n ≤ k → drop n l ≡ drop n m → drop k l ≡ drop k m
-drop_further n k l m h e =
-    let f : n + (k - n) ≡ k = omega arith in
-    ap (λ i. drop i l) (sym f) ∙ sym (drop-drop (k - n) n l) ∙ ap (drop (k - n)) e ∙ drop-drop (k - n) n m ∙ ap (λ i. drop i m) f
-
 -- nothing tried, and two lists tried one after the other
 module _ (d : Theory) where
   pub tried_none : (m l : List ℕ) (n : ℕ) → Logged d m l n → Tried d [] m l n m l n
   unfolding grow
-  tried_none m l n g = record { logged = g; lines = refl; past = refl; more = le_refl n; size = refl; held = λ _. refl; kept = kept_none m }
+  tried_none m l n g = record { logged = g; lines = refl; grown = grown_none m l n; held = λ _. refl }
 
   pub tried_on : {cs ds m l m' l' m'' l'' : List ℕ} {n n' n'' : ℕ} → Tried d cs m l n m' l' n' → Tried d ds m' l' n' m'' l'' n'' → Tried d (cs ++ ds) m l n m'' l'' n''
   tried_on {cs} {ds} {m} {l} {m'} {l'} {m''} {l''} {n} {n'} {n''} f g =
@@ -173,11 +197,8 @@ module _ (d : Theory) where
         lines =
             g.lines ∙ grow_held (plain_system d) (held_of m') (held_of m) f.held (take n' l') ds
             ∙ ap (λ k. grow (plain_system d) (held_of m) [] k ds) f.lines ∙ sym (grow_append (plain_system d) (held_of m) [] (take n l) cs ds);
-        past = g.past ∙ drop_further n' n'' l' l g.more f.past;
-        more = le_trans f.more g.more;
-        size = g.size ∙ f.size;
+        grown = grown_on f.grown g.grown;
         held = λ x. g.held x ∙ f.held x;
-        kept = kept_then f.kept g.kept;
       }
 
 -- one conclusion was tried: there are as many lines as before and the same are written, or it is written
@@ -208,20 +229,29 @@ module _ (d : Theory) (m l m' l' : List ℕ) (n n' x : ℕ) (g : Logged d m l n)
       ⊎_elim (λ t. subst T (sym (f.logged.written x ∙ ap (member x) (lines_now ∙ put_adds goes (take n l) x t))) (member_last (take n l) x))
       (λ u. absurd (h (counted ∙ ap length (put_stays goes (take n l) x u) ∙ length-take-le n l g.inside))) (test_cases goes)
 
--- A conclusion of a table that follows and is not written.
+-- A conclusion of a table that its lines yield and that is not written.
 module _ (table : Table) (m l : List ℕ) (n x : ℕ) (g : Logged (theory_said table) m l n) (small : x < tag_count * (2 * table.sizes.atoms)) (new : written_of m x ≡ false)
-    (follows : (plain_system (theory_said table)).infers (held_of m) x ≡ true) where
+    (yielded : Yielded (theory_said table) l n x) where
   small_here : x < tag_count * (2 * (theory_said table).atoms)
   small_here = omega (arith, atoms_in table)
 
   pub room_for : (n < length l) × (n < 2048)
   room_for = (
-    fits_log (theory_said table) (proper_in table) m l n x g small_here new (of_true _ follows),
-    omega (arith, fits_line (theory_said table) (proper_in table) m l n x g small_here new (of_true _ follows), atoms_in table, (few table).atoms),
+    fits_log (theory_said table) (proper_in table) m l n x g small_here new yielded,
+    omega (arith, fits_line (theory_said table) (proper_in table) m l n x g small_here new yielded, atoms_in table, (few table).atoms),
   )
 
-  pub writes_line : (m' : List ℕ) → Wrote (theory_said table) x m m' → Tried (theory_said table) (x ∷ []) m l n m' (set l n x) (n + 1)
-  writes_line = writes (theory_said table) (proper_in table) m l n x g small_here new (of_true _ follows)
+  pub appends_line : (m' : List ℕ) → Wrote (theory_said table) x m m' → Appended (theory_said table) x m l n m' (set l n x) (n + 1)
+  appends_line = appends (theory_said table) (proper_in table) m l n x g small_here new yielded
+
+-- One that follows from what is processed.
+module _ (table : Table) (m l : List ℕ) (n x : ℕ) (g : Logged (theory_said table) m l n) (small : x < tag_count * (2 * table.sizes.atoms)) (new : written_of m x ≡ false)
+    (follows : (plain_system (theory_said table)).infers (held_of m) x ≡ true) where
+  pub yielded_so : Yielded (theory_said table) l n x
+  yielded_so = line_yields (theory_said table) (proper_in table) m l n x g (of_true _ follows)
+
+  pub tried_so : {m' l' : List ℕ} {n' : ℕ} → Appended (theory_said table) x m l n m' l' n' → Tried (theory_said table) (x ∷ []) m l n m' l' n'
+  tried_so = writes (theory_said table) (proper_in table) m l n x g (omega (arith, atoms_in table)) new (of_true _ follows)
 
 -- What was tried for a table was tried for one that is the same.
 pub tried_of : (cs : Theory → List ℕ) {t u : Table} {m l m' l' : List ℕ} {n n' : ℕ} → u ≡ t → Tried (theory_said u) (cs (theory_said u)) m l n m' l' n'

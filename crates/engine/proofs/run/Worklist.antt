@@ -1,35 +1,36 @@
--- The worklist loop: where a run stands between two lines. Assumes nothing.
+-- The loop over the lines: where a run stands between two of them. Assumes nothing.
 use Prim.Native.Nat.{ℕ, ◌+◌, ◌-◌, ◌*◌, ◌≤◌, ◌<◌}
-use native.Mathlib.Nat.{lt_irrefl}
+use native.Mathlib.Nat.{lt_irrefl, not-le_of_lt}
 use native.Mathlib.Omega.{arith}
 use mathlib.Core.Path.{◌≡◌, refl, sym, ◌∙◌, ap, ap₂, subst, fun_ext}
-use mathlib.Core.Bool.{Bool, true, false, cond}
+use mathlib.Core.Bool.{Bool, true, false}
 use mathlib.Core.List.{List, [], ◌∷◌, ◌++◌, append_assoc, append-nil}
-use lib.Dec.{T, eqb}
+use lib.Dec.{T, eqb, leb, leb→le, le→leb}
 use lib.ListN.{length, get_or, take, drop, length-append, take-append-drop}
-use lib.Seq.{length-take-le, get_or_at, get_or-take}
-use Rattle.logic.specs.Tests.{◌and◌, ◌or◌, isnt, some_of, member, distinct}
-use Rattle.logic.specs.Theory.{Theory, proper, size}
+use lib.Seq.{length-take-le, get_or_at, get_or-take, take-take, take_at, drop_at}
+use Rattle.logic.specs.Tests.{◌and◌, ◌or◌, isnt, empty, member, distinct}
+use Rattle.logic.specs.Theory.{Theory, proper}
 use Rattle.logic.specs.System.{System, held}
-use Rattle.logic.specs.Worklist.{outcome, put, grow, initial, process, cost_after, rest, run}
+use Rattle.logic.specs.Worklist.{Stage, stage, outcome, put, grow, process, cost_after, rest}
 use Rattle.logic.specs.Reading.{system_of}
-use Rattle.logic.specs.Plain.{plain_system}
-use Rattle.logic.proofs.Tests.{false_of, true_of}
+use Rattle.logic.specs.Plain.{plain_system, no_searches}
+use Rattle.logic.specs.WellFounded.{unfounded_searches}
+use Rattle.logic.proofs.Tests.{false_of, true_of, and_intro, and_left, nil_empty}
 use Rattle.logic.proofs.Lists.{distinct_apart, member_here, member_more, member_right, snoc_append}
 use Rattle.logic.proofs.Derivations.{derives_all_below}
-use Rattle.logic.proofs.Budgets.{rest_done, rest_steps, rest_stops, run_started}
-use Rattle.logic.proofs.Plain.{plain_lawful}
-use Rattle.engine.specs.declared.answer.Counts.{Counts}
-use Rattle.engine.specs.declared.answer.Answer.TheVariants.{Stopped, Finished}
+use Rattle.logic.proofs.Runs.{toll_line, step_line, goes_intro}
+use Rattle.logic.proofs.Budgets.{rest_ended, rest_goes, rest_stops}
+use Rattle.logic.proofs.Plain.{no_searches_lem, plain_lawful}
+use Rattle.table.specs.declared.accepted.Table.{Table}
+use Rattle.table.specs.Tables.{theory_said}
 use Rattle.engine.specs.declared.tally.Tally.{Tally}
 use Rattle.memory.specs.Layout.{tag_count}
 use Rattle.memory.specs.Memory.{held_of}
-use Rattle.memory.specs.Api.{adds, Kept}
+use Rattle.memory.specs.Api.{adds}
 use Rattle.engine.specs.Tallies.{next, due, Next, Stepped}
-use Rattle.engine.specs.Working.{Logged, Worked}
-use Rattle.engine.proofs.run.Trying.{drop_further}
+use Rattle.engine.specs.Working.{Grown, Reached, stage_at, Lined}
+use Rattle.engine.proofs.run.Trying.{grown_none, grown_on}
 use Rattle.engine.proofs.run.Tallies.{step_stopped, step_worked}
-use Rattle.memory.proofs.Views.{kept_none, kept_then}
 
 -- what was processed may stand before what is pending
 put_after : (b : Bool) (done todo : List ℕ) (x : ℕ) → done ++ put b todo x ≡ put b (done ++ todo) x
@@ -49,150 +50,196 @@ split_of : (done todo l : List ℕ) (w : ℕ) → l ≡ done ++ todo → w ≡ l
 split_of done [] l w e f h = absurd (lt_irrefl w (omega (arith, ap length e, ap length (append-nil done))))
 split_of done (x ∷ xs) l w e f h = (xs, ap (λ z. z ∷ xs) (sym (ap (λ k. get_or k w 0) e ∙ get_or_at done x xs 0 w (sym f))))
 
-none_left : (done todo l : List ℕ) (w : ℕ) → l ≡ done ++ todo → w ≡ length done → length l ≤ w → todo ≡ []
+pub none_left : (done todo l : List ℕ) (w : ℕ) → l ≡ done ++ todo → w ≡ length done → length l ≤ w → todo ≡ []
 none_left done [] l w e f h = refl
 none_left done (x ∷ xs) l w e f h = absurd (lt_irrefl w (omega (arith, ap length e, length-append done (x ∷ xs))))
 
--- Where a run stands: what is left from here is what was left at the start.
-pub record Stands (d : Theory) (budget : ℕ) (mem₀ log₀ mem log : List ℕ) (n : ℕ) (t : Tally) : Type 0 where
+-- What is processed, and what is pending, of the lines.
+pub record Split (log : List ℕ) (n : ℕ) (t : Tally) : Type 0 where
   pub done : List ℕ
   pub todo : List ℕ
   pub lines : take n log ≡ done ++ todo
   pub worked : t.worked ≡ length done
-  pub held : (x : ℕ) → held_of mem x ≡ member x done
-  pub logged : Logged d mem log n
-  pub same : rest (plain_system d) budget done todo t.spent ≡ run (plain_system d) budget
-  pub within : t.spent ≤ budget
-  pub past : drop n log ≡ drop n log₀
-  pub size : length log ≡ length log₀
-  pub kept : Kept mem₀ mem
 
--- the lines and the tally as counts
-abbrev Counted : Counts → ℕ → Tally → Type 0
-Counted k n t = (k.lines ≡ n) × (k.worked ≡ t.worked) × (k.spent ≡ t.spent)
+-- the lines of a stage
+pub stage_lines : (log : List ℕ) (n : ℕ) (t : Tally) → t.worked ≤ n → take n log ≡ take t.worked log ++ drop t.worked (take n log)
+stage_lines log n t h =
+    sym (take-append-drop t.worked (take n log)) ∙ ap (λ (k : List ℕ). k ++ drop t.worked (take n log)) (take-take t.worked n log h)
 
-module _ {d : Theory} (p : T (proper d)) {budget : ℕ} where
-  pub stands_start : {mem log : List ℕ} {n start : ℕ} → Logged d mem log n → take n log ≡ initial (plain_system d) → ((x : ℕ) → held_of mem x ≡ false)
-      → start ≡ size d → start ≤ budget → Stands d budget mem log mem log n (record { worked = 0; spent = start })
-  unfolding some_of system_of
-  stands_start {mem} {log} {n} {start} g e h f l =
-      record {
-        done = [];
-        todo = initial (plain_system d);
-        lines = e;
-        worked = refl;
-        held = h;
-        logged = g;
-        same = ap (rest (plain_system d) budget [] (initial (plain_system d))) f ∙ sym (run_started (plain_system d) budget (subst (λ k. k ≤ budget) f l));
-        within = l;
-        past = refl;
-        size = refl;
-        kept = kept_none mem;
-      }
+pub stage_worked : (log : List ℕ) (n : ℕ) (t : Tally) → t.worked ≤ n → n ≤ length log → t.worked ≡ length (take t.worked log)
+stage_worked log n t h l = sym (length-take-le t.worked log (omega arith))
 
-  module _ {mem₀ log₀ mem log : List ℕ} {n : ℕ} {t : Tally} (g : Stands d budget mem₀ log₀ mem log n t) where
-    -- the run's outcome, as it is answered
-    ending : (b : Bool) (todo : List ℕ) → g.todo ≡ todo → run (plain_system d) budget ≡ outcome b g.done todo t.spent → (k : Counts) → Counted k n t
-        → Worked (run (plain_system d) budget) mem₀ log₀ mem log (cond b (Finished k) (Stopped k))
-    ending b todo e o k c =
-        subst
-        (λ r. Worked r mem₀ log₀ mem log (cond b (Finished k) (Stopped k)))
-        (sym o)
-        (record {
-          answer = ap (λ z. cond b (Finished z) (Stopped z)) counts;
-          written =
-              sym (take-append-drop n log) ∙ ap₂ (λ (x y : List ℕ). x ++ y) whole g.past
-              ∙ ap (λ i. (g.done ++ todo) ++ drop i log₀) number;
-          kept = g.kept;
-        })
-      where
-        whole : take n log ≡ g.done ++ todo
-        whole = g.lines ∙ ap (λ (l : List ℕ). g.done ++ l) e
+-- so the stage has these
+module _ {log : List ℕ} {n : ℕ} {t : Tally} (h : t.worked ≤ n) (p : Split log n t) where
+  pub split_done : take t.worked log ≡ p.done
+  split_done = sym (take-take t.worked n log h) ∙ ap (take t.worked) p.lines ∙ take_at p.done p.todo t.worked (sym p.worked)
 
-        number : n ≡ length (g.done ++ todo)
-        number = sym (length-take-le n log g.logged.inside) ∙ ap length whole
+  pub split_todo : drop t.worked (take n log) ≡ p.todo
+  split_todo = ap (drop t.worked) p.lines ∙ drop_at p.done p.todo t.worked (sym p.worked)
 
-        counts : k ≡ record { lines = length (g.done ++ todo); worked = length g.done; spent = t.spent }
-        counts = λ i. record { lines = (c.0 ∙ number) i; worked = (c.1 ∙ g.worked) i; spent = c.2 i }
+  pub split_stage : (idle searched : ℕ) → stage_at log n t idle searched ≡ stage p.done p.todo idle searched t.spent
+  split_stage idle searched = ap₂ (λ (k l : List ℕ). stage k l idle searched t.spent) split_done split_todo
 
-    pub stands_done : n ≤ t.worked → (k : Counts) → Counted k n t → Worked (run (plain_system d) budget) mem₀ log₀ mem log (Finished k)
+-- Where the loop stands: what is left from here is what was left at the start.
+pub record Stands (d : Theory) (budget : ℕ) (mem₀ log₀ : List ℕ) (n₀ : ℕ) (t₀ : Tally) (mem log : List ℕ) (n : ℕ) (t : Tally) : Type 0 where
+  pub reached : Reached d budget mem log n t
+  pub grown : Grown mem₀ log₀ n₀ mem log n
+  pub same : rest (plain_system d) (no_searches d) budget (stage_at log₀ n₀ t₀ 0 0) ≡ rest (plain_system d) (no_searches d) budget (stage_at log n t 0 0)
+
+module _ (d : Theory) (p : T (proper d)) (budget : ℕ) where
+  abbrev s : System
+  s = plain_system d
+
+  pub stands_start : {mem log : List ℕ} {n : ℕ} {t : Tally} → Reached d budget mem log n t → Stands d budget mem log n t mem log n t
+  stands_start {mem} {log} {n} g = record { reached = g; grown = grown_none mem log n; same = refl }
+
+  module _ (mem₀ log₀ : List ℕ) (n₀ : ℕ) (t₀ : Tally) (mem log : List ℕ) (n : ℕ) (t : Tally) (g : Stands d budget mem₀ log₀ n₀ t₀ mem log n t) where
+    abbrev done : List ℕ
+    done = take t.worked log
+
+    lines_here : take n log ≡ done ++ drop t.worked (take n log)
+    lines_here = stage_lines log n t g.reached.few
+
+    worked_here : t.worked ≡ length done
+    worked_here = stage_worked log n t g.reached.few g.reached.logged.inside
+
+    long : length (take n log) ≡ n
+    long = length-take-le n log g.reached.logged.inside
+
+    -- no line is left
+    pub stands_done : n ≤ t.worked → Lined d budget mem₀ log₀ n₀ t₀ mem log n t
     stands_done h =
-        let e : g.todo ≡ [] = none_left g.done g.todo (take n log) t.worked g.lines g.worked (omega (arith, length-take-le n log g.logged.inside)) in
-        ending true [] e
-        (sym g.same ∙ ap (λ l. rest (plain_system d) budget g.done l t.spent) e ∙ rest_done (plain_system d) (plain_lawful d p) budget g.done t.spent)
+        let e : drop t.worked (take n log) ≡ [] = none_left done (drop t.worked (take n log)) (take n log) t.worked lines_here worked_here (omega (arith, long)) in
+        record {
+          reached = g.reached;
+          grown = g.grown;
+          same = g.same
+              ∙ rest_ended s (no_searches d) (plain_lawful d p) budget (stage_at log n t 0 0) (and_intro _ _ (nil_empty _ e) (le→leb (no_searches d).count 0 (omega (arith, no_searches_lem d))))
+              ∙ ap (λ b. outcome b (stage_at log n t 0 0)) (sym (true_of (leb n t.worked) (le→leb _ _ h)));
+        }
 
     module _ (more : t.worked < n) where
       abbrev x : ℕ
       x = next log t
 
-      split : (xs : List ℕ) × (g.todo ≡ x ∷ xs)
+      split : (xs : List ℕ) × (drop t.worked (take n log) ≡ x ∷ xs)
       split =
-          let (xs, e) = split_of g.done g.todo (take n log) t.worked g.lines g.worked (omega (arith, length-take-le n log g.logged.inside)) in
+          let (xs, e) = split_of done (drop t.worked (take n log)) (take n log) t.worked lines_here worked_here (omega (arith, long)) in
           (xs, e ∙ ap (λ z. z ∷ xs) (get_or-take n log t.worked 0 more))
 
-      whole : take n log ≡ g.done ++ (x ∷ split.0)
-      whole = g.lines ∙ ap (λ (k : List ℕ). g.done ++ k) split.1
+      whole : take n log ≡ done ++ (x ∷ split.0)
+      whole = lines_here ∙ ap (λ (k : List ℕ). done ++ k) split.1
+
+      -- where the run stands, by its next line
+      abbrev here : Stage
+      here = stage done (x ∷ split.0) 0 0 t.spent
+
+      at_line : stage_at log n t 0 0 ≡ here
+      at_line = ap (λ (k : List ℕ). stage done k 0 0 t.spent) split.1
+
+      unended : T (empty (x ∷ split.0) and leb (no_searches d).count 0) → ⊥
+      unfolding empty
+      unended u = and_left _ _ u
 
       next_member : T (member x (take n log))
-      next_member = subst (λ k. T (member x k)) (sym whole) (member_right x g.done (x ∷ split.0) (member_here x split.0))
+      next_member = subst (λ k. T (member x k)) (sym whole) (member_right x done (x ∷ split.0) (member_here x split.0))
 
       next_small : x < tag_count * (2 * d.atoms)
       unfolding system_of
-      next_small = let b : x < tag_count * (2 * d.atoms) = derives_all_below (plain_system d) [] (take n log) g.logged.derives x next_member in omega arith
+      next_small = let b : x < tag_count * (2 * d.atoms) = derives_all_below s (unfounded_searches d) [] (take n log) g.reached.logged.derives x next_member in omega arith
 
       -- the next line, written and not processed
       pub stands_asks : Next d budget mem log n t
       stands_asks =
           record {
-            logged = g.logged;
+            logged = g.reached.logged;
             more = more;
             small = next_small;
-            written = g.logged.written x ∙ true_of _ next_member;
-            new = g.held x ∙ false_of _ (distinct_apart g.done x split.0 (subst (λ k. T (distinct k)) whole g.logged.once));
-            within = g.within;
+            written = g.reached.logged.written x ∙ true_of _ next_member;
+            new = g.reached.held x ∙ false_of _ (distinct_apart done x split.0 (subst (λ k. T (distinct k)) whole g.reached.logged.once));
+            within = g.reached.within;
           }
 
-      adds_done : (y : ℕ) → adds (held_of mem) x y ≡ member y (g.done ++ (x ∷ []))
-      adds_done y = ap (λ b. b or eqb y x) (g.held y) ∙ member_more g.done x y
+      adds_done : (y : ℕ) → adds (held_of mem) x y ≡ member y (done ++ (x ∷ []))
+      adds_done y = ap (λ b. b or eqb y x) (g.reached.held y) ∙ member_more done x y
 
-      next_cost : due d mem x ≡ cost_after (plain_system d) g.done x
-      next_cost = ap₂ (λ h k. (plain_system d).cost h k x) (fun_ext g.held) (fun_ext adds_done)
+      next_cost : due d mem x ≡ cost_after s done x
+      next_cost = ap₂ (λ h k. s.cost h k x) (fun_ext g.reached.held) (fun_ext adds_done)
 
-      module _ {mem' log' : List ℕ} {n' : ℕ} {t' : Tally} (e : Stepped d budget mem log n t mem' log' n' t') where
-        pub stands_stopped : t'.worked ≡ t.worked → (k : Counts) → Counted k n' t' → Worked (run (plain_system d) budget) mem₀ log₀ mem' log' (Stopped k)
-        stands_stopped h k c =
-            let (less, em, el, en, et) = step_stopped e h in
-            subst (λ l. Worked (run (plain_system d) budget) mem₀ log₀ mem' l (Stopped k)) (sym el)
-            (subst (λ m. Worked (run (plain_system d) budget) mem₀ log₀ m log (Stopped k)) (sym em)
-            (ending false (x ∷ split.0) split.1
-            (sym g.same ∙ ap (λ l. rest (plain_system d) budget g.done l t.spent) split.1
-            ∙ rest_stops (plain_system d) (plain_lawful d p) budget g.done x split.0 t.spent (subst (λ i. budget - t.spent < i) next_cost less))
-            k (c.0 ∙ en, c.1 ∙ ap (λ z. z.worked) et, c.2 ∙ ap (λ z. z.spent) et)))
-
-        pub stands_next : (t'.worked ≡ t.worked → ⊥) → Stands d budget mem₀ log₀ mem' log' n' t'
-        stands_next h =
-            let (fit, k, et) = step_worked e h in
-            let ew : t'.worked ≡ t.worked + 1 = ap (λ z. z.worked) et in
-            let es : t'.spent ≡ t.spent + due d mem x = ap (λ z. z.spent) et in
+      module _ (mem' log' : List ℕ) (n' : ℕ) (t' : Tally) (e : Stepped d budget mem log n t mem' log' n' t') where
+        -- the cost of the next line does not fit
+        stopped_here : budget - t.spent < due d mem x → Lined d budget mem₀ log₀ n₀ t₀ mem log n t
+        stopped_here less =
             record {
-              done = g.done ++ (x ∷ []);
-              todo = process (plain_system d) g.done x split.0;
-              lines =
-                  k.lines ∙ ap (λ j. grow (plain_system d) j [] (take n log) ((plain_system d).tried x)) (fun_ext adds_done)
-                  ∙ ap (λ l. grow (plain_system d) (held (g.done ++ (x ∷ []))) [] l ((plain_system d).tried x)) (whole ∙ sym (snoc_append g.done x split.0))
-                  ∙ sym (grow_after (plain_system d) (held (g.done ++ (x ∷ []))) (g.done ++ (x ∷ [])) split.0 ((plain_system d).tried x));
-              worked = omega (arith, ew, g.worked, length-append g.done (x ∷ []));
-              held = λ y. k.held y ∙ adds_done y;
-              logged = k.logged;
-              same =
-                  ap (rest (plain_system d) budget (g.done ++ (x ∷ [])) (process (plain_system d) g.done x split.0)) (es ∙ ap (λ z. t.spent + z) next_cost)
-                  ∙ sym (rest_steps (plain_system d) (plain_lawful d p) budget g.done x split.0 t.spent (subst (λ z. z ≤ budget - t.spent) next_cost fit))
-                  ∙ ap (λ l. rest (plain_system d) budget g.done l t.spent) (sym split.1) ∙ g.same;
-              within = omega (arith, es, fit, g.within);
-              past = k.past ∙ drop_further n n' log log₀ k.more g.past;
-              size = k.size ∙ g.size;
-              kept = kept_then g.kept k.kept;
+              reached = g.reached;
+              grown = g.grown;
+              same = g.same ∙ ap (rest s (no_searches d) budget) at_line
+                  ∙ rest_stops s (no_searches d) (plain_lawful d p) budget here unended
+                  (subst (λ k. budget - t.spent < k) (next_cost ∙ sym (toll_line s done x split.0)) less)
+                  ∙ ap₂ outcome (sym (false_of (leb n t.worked) (λ u. not-le_of_lt more (leb→le _ _ u)))) (sym at_line);
             }
 
-        pub stands_less : (t'.worked ≡ t.worked → ⊥) → t'.worked ≡ t.worked + 1
-        stands_less h = ap (λ z. z.worked) (step_worked e h).2
+        pub stands_stopped : t'.worked ≡ t.worked → Lined d budget mem₀ log₀ n₀ t₀ mem' log' n' t'
+        stands_stopped h =
+            let (less, em, el, en, et) = step_stopped e h in
+            coe 1 0 (j. Lined d budget mem₀ log₀ n₀ t₀ (em j) (el j) (en j) (et j)) (stopped_here less)
+
+        -- it fits, and was processed
+        module _ (h : t'.worked ≡ t.worked → ⊥) where
+          abbrev todo : List ℕ
+          todo = process s done x split.0
+
+          ew : t'.worked ≡ t.worked + 1
+          ew = ap (λ z. z.worked) (step_worked e h).2
+
+          es : t'.spent ≡ t.spent + cost_after s done x
+          es = ap (λ z. z.spent) (step_worked e h).2 ∙ ap (λ z. t.spent + z) next_cost
+
+          fit : cost_after s done x ≤ budget - t.spent
+          fit = subst (λ z. z ≤ budget - t.spent) next_cost (step_worked e h).0
+
+          later : Split log' n' t'
+          later =
+              record {
+                done = done ++ (x ∷ []);
+                todo = todo;
+                lines =
+                    let k = (step_worked e h).1 in
+                    k.lines ∙ ap (λ j. grow s j [] (take n log) (s.tried x)) (fun_ext adds_done)
+                    ∙ ap (λ l. grow s (held (done ++ (x ∷ []))) [] l (s.tried x)) (whole ∙ sym (snoc_append done x split.0))
+                    ∙ sym (grow_after s (held (done ++ (x ∷ []))) (done ++ (x ∷ [])) split.0 (s.tried x));
+                worked = omega (arith, ew, worked_here, length-append done (x ∷ []));
+              }
+
+          few' : t'.worked ≤ n'
+          few' = let k = (step_worked e h).1 in omega (arith, ew, k.grown.more, more)
+
+          pub stands_next : Stands d budget mem₀ log₀ n₀ t₀ mem' log' n' t'
+          unfolding later
+          stands_next =
+              let k = (step_worked e h).1 in
+              record {
+                reached =
+                    record {
+                      logged = k.logged;
+                      few = few';
+                      held = λ y. k.held y ∙ adds_done y ∙ ap (member y) (sym (split_done few' later));
+                      within = omega (arith, es, fit, g.reached.within);
+                    };
+                grown = grown_on g.grown k.grown;
+                same = g.same ∙ ap (rest s (no_searches d) budget) at_line
+                    ∙ rest_goes s (no_searches d) (plain_lawful d p) budget here
+                    (goes_intro s (no_searches d) budget here unended (subst (λ z. z ≤ budget - t.spent) (sym (toll_line s done x split.0)) fit))
+                    ∙ ap (rest s (no_searches d) budget) (step_line s (no_searches d) done x split.0 0 0 t.spent ∙ ap (stage (done ++ (x ∷ [])) todo 0 0) (sym es) ∙ sym (split_stage few' later 0 0));
+              }
+
+          pub stands_less : t'.worked ≡ t.worked + 1
+          stands_less = ew
+
+-- the same of a table that is the other
+pub lined_by : {t u : Table} {budget : ℕ} {m l m' l' : List ℕ} {n n' : ℕ} {a z : Tally} → u ≡ t → Lined (theory_said u) budget m l n a m' l' n' z
+    → Lined (theory_said t) budget m l n a m' l' n' z
+lined_by {budget = budget} {m} {l} {m'} {l'} {n} {n'} {a} {z} e f = subst (λ k. Lined (theory_said k) budget m l n a m' l' n' z) e f
+
+pub reached_by : {t u : Table} {budget : ℕ} {m l : List ℕ} {n : ℕ} {a : Tally} → u ≡ t → Reached (theory_said t) budget m l n a → Reached (theory_said u) budget m l n a
+reached_by {budget = budget} {m} {l} {n} {a} e f = subst (λ k. Reached (theory_said k) budget m l n a) (sym e) f

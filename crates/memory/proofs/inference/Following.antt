@@ -47,7 +47,7 @@ above : (n : ℕ) → (n ≡ 0 → ⊥) → ltb 0 n ≡ true
 above n h = true_of _ (lt→ltb 0 n (omega arith))
 
 -- a fact, by its word
-fact_above : (b : Bool) → ltb 0 (weigh b 1) ≡ b
+pub fact_above : (b : Bool) → ltb 0 (weigh b 1) ≡ b
 unfolding weigh
 fact_above true = refl
 fact_above false = refl
@@ -88,7 +88,7 @@ module _ (d : Theory) (m : List ℕ) (ready : Ready d m) where
   unfolding virtual
   fires_definitely r l = fires_all 0 r (omega arith) refl l
 
-  out_definitely : (r : ℕ) → r < d.rules → is_out (view m) 1 r ≡ one_has d h 1 r
+  pub out_definitely : (r : ℕ) → r < d.rules → is_out (view m) 1 r ≡ one_has d h 1 r
   unfolding virtual
   out_definitely r l = out_one 1 r (omega arith) refl l
 
@@ -199,6 +199,15 @@ module _ (d : Theory) (m : List ℕ) (ready : Ready d m) where
           (ready.invariant.index.headed (complement q) (complement_below q d.atoms b))
           ∙ count_every d.rules (λ s. attacker d s q) (λ s. inference.countered d h q s)))
 
+      -- an attacker fires, and each supporter of q is out or not over it
+      pub unopposed_by : ltb 0 (view m unopposed_f (complement q)) ≡ some d.rules (λ s. attacker d s q and inference.uncountered d h q s)
+      unfolding attacker
+      unopposed_by =
+          ap (ltb 0)
+          (ready.invariant.counts.unopposed (complement q) (complement_below q d.atoms b)
+          ∙ count_ext d.rules _ _ (λ s l. and_under (attacker d s q) _ _ (λ t. ap₂ ◌and◌ (fires_defeasibly s l) (lost_by s l t))))
+          ∙ count_some d.rules (λ s. attacker d s q and inference.uncountered d h q s)
+
       pub not_defeasibly_by_lem : not_defeasibly_by (view m) q ≡ inference.not_defeasibly d h q
       unfolding attacker
       not_defeasibly_by_lem =
@@ -208,10 +217,7 @@ module _ (d : Theory) (m : List ℕ) (ready : Ready d m) where
           (ap₂ eqb (ready.invariant.counts.out q b ∙ count_ext d.rules _ _ (λ r l. ap (supporter d r q and◌) (out_defeasibly r l))) (ready.invariant.index.supports q b)
           ∙ count_every d.rules (λ r. supporter d r q) (λ r. one_has d h 3 r))
           (processed_held (complement q) 0 (omega arith)))
-          (ap (ltb 0)
-          (ready.invariant.counts.unopposed (complement q) (complement_below q d.atoms b)
-          ∙ count_ext d.rules _ _ (λ s l. and_under (attacker d s q) _ _ (λ t. ap₂ ◌and◌ (fires_defeasibly s l) (lost_by s l t))))
-          ∙ count_some d.rules (λ s. attacker d s q and inference.uncountered d h q s)))
+          unopposed_by)
 
 -- the tests as they are read
 module _ (w : ℕ → ℕ → ℕ) (q : ℕ) where

@@ -15,6 +15,6 @@ invariant_of-lines c =
 pub returns : goal.returns
 returns c =
     worked_in
-    (worked_all {d = theory_said c.args.run.table} _ _ _ c.args.run.paid.size c.args.run.paid.within c.prepare.ensures c.write_initial.ensures.opened
-    (worked_of _ c.write_initial.ensures.lent.table c.work.ensures.worked))
+    (worked_all c.args.run.reading {d = theory_said c.args.run.table} _ _ _ c.args.run.paid.size c.args.run.paid.within c.prepare.ensures c.write_initial.ensures.opened
+    (worked_of c.args.run.reading _ c.write_initial.ensures.lent.table c.work.ensures.worked))
     (search rules) (search rules)

@@ -1,7 +1,7 @@
 -- `engine::tries::write_line` meets its contract. Assumes nothing.
 use native.Mathlib.Omega.{arith}
 use Rattle.table.proofs.Legal.{limited}
-use Rattle.engine.proofs.run.Trying.{room_for, writes_line}
+use Rattle.engine.proofs.run.Trying.{room_for, appends_line}
 use Rattle.engine.proofs.tries.write_line.Goals as goal
 
 pub write-requires : goal.write-requires
@@ -14,4 +14,4 @@ pub overflow_add-count : goal.overflow_add-count
 overflow_add-count c = record { fits = omega (arith, (room_for c.args.table _ _ _ _ c.requires.0 c.requires.1 c.requires.2 c.requires.3).1) }
 
 pub returns : goal.returns
-returns c = writes_line c.args.table _ _ _ _ c.requires.0 c.requires.1 c.requires.2 c.requires.3 _ c.write.ensures
+returns c = appends_line c.args.table _ _ _ _ c.requires.0 c.requires.1 c.requires.2 c.requires.3 _ c.write.ensures

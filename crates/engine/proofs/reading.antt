@@ -1,0 +1,2 @@
+-- The readings: one system, and what is handed over with a run in each.
+pub mod Readings

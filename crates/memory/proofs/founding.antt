@@ -1,0 +1,2 @@
+-- Laws of what a search asks.
+pub mod Asking

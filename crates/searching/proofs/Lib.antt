@@ -1,0 +1,5 @@
+pub mod Unfounded
+pub mod Leaving
+pub mod Losing
+pub mod Telling
+pub mod Ends
