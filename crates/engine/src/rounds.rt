@@ -13,7 +13,7 @@ use crate::tally::Tally;
 use crate::tries::write_line;
 use memory::layout::TAGS;
 use memory::marks::is_written;
-use searching::outside::{LITERALS, Outside, RULES};
+use searching::outside::Outside;
 use values::both;
 
 // Whether a search is made next: no line is left, not all of them were idle one after the other, and the start's cost fits what is left.
@@ -114,12 +114,7 @@ impl Lines<'_> {
         ensures searched { SearchedBy i self.old self.new }
         ensures lent { Lent self.old self.new }
     {
-        let mut outside = Outside {
-            gone: [0u16; LITERALS],
-            list: [0u16; LITERALS],
-            end: 0,
-            lost: [0u16; RULES],
-        };
+        let mut outside = Outside::nothing();
         let mem = &mut *self.mem;
         outside.find(self.table, mem, i);
         self.write_found(i, &outside);

@@ -12,9 +12,9 @@ use table::accepted::Table;
 use table::format::Sizes;
 use values::both;
 
-pub const LITERALS: usize = 2 * Sizes::MAX_ATOMS as usize;
+const LITERALS: usize = 2 * Sizes::MAX_ATOMS as usize;
 
-pub const RULES: usize = Sizes::MAX_RULES as usize;
+const RULES: usize = Sizes::MAX_RULES as usize;
 
 // What left in a search, in arrays of its own beside the memory, since it uses no heap.
 #[derive(Drop)]
@@ -22,10 +22,10 @@ pub struct Outside {
     // by literal: 1 if it left, else 0
     pub gone: [u16; LITERALS],
     // the literals that left, in the first `end` words
-    pub list: [u16; LITERALS],
-    pub end: usize,
+    list: [u16; LITERALS],
+    end: usize,
     // by rule: how many antecedents it has lost, the virtual one with them
-    pub lost: [u16; RULES],
+    lost: [u16; RULES],
 }
 
 // Whether rule r, which has lost n antecedents, makes its head q leave.
@@ -47,6 +47,18 @@ impl Outside {
     ghost use Rattle.memory.specs.Memory.{Ready};
     ghost use Rattle.memory.specs.Founding.{held_in};
     ghost use Rattle.searching.specs.Leaving.{Empty, Leaves, founds, Barred, ReachedIn, told_of, Stays};
+
+    // Nothing left yet.
+    pub fn nothing() -> Outside
+        ensures { Empty result }
+    {
+        Outside {
+            gone: [0u16; LITERALS],
+            list: [0u16; LITERALS],
+            end: 0,
+            lost: [0u16; RULES],
+        }
+    }
 
     // Literal q leaves, if the test says so and it did not leave before.
     fn leave_if(&mut self, q: u16, test: bool)
