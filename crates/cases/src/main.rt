@@ -21,20 +21,30 @@ use records::{
     base_differs, body_differs, conversion_differs, made_differ, readings_differ, searched_differs,
     sheet_differs, told_differ,
 };
-use std::io::ErrorKind;
+use std::fs::{File, OpenFile};
+use std::io;
+use std::io::{ErrorKind, Read};
 use std::rt::Files;
-use std::{fs, io};
 use stream::{END, Stream};
 
 // More records than any file has.
 const LIMIT: u32 = 65536;
 
-// The bytes of a data file, none where there is no such file.
+// The bytes of a data file, none where there is no such file. Where the file says how long it is, room is made at once for it and for the zeros
+// that come behind it: a vector that grows by itself doubles. A pipe says nothing.
 fn bytes_of(rt: &(impl Files + AllocGlobal), file: &str) -> io::Result<Vec<u8>> {
-    match fs::read(rt, file) {
-        Err(e) if e.kind() == ErrorKind::NotFound => Ok(Vec::new(rt.alloc())),
-        read => read,
+    let mut bytes = Vec::new(rt.alloc());
+    let mut opened = match File::open(rt, file) {
+        Err(e) if e.kind() == ErrorKind::NotFound => return Ok(bytes),
+        opened => opened?,
+    };
+    let size = opened.metadata()?.len() as usize;
+    if 0 < size {
+        bytes.reserve_exact(size.saturating_add(SIZE))?;
     }
+    opened.read_to_end(&mut bytes)?;
+    bytes.reserve_exact(SIZE)?;
+    Ok(bytes)
 }
 
 // The records of a file, by how the count of a record's table, or house, is read, and by what differs first in the rest of the record. A
