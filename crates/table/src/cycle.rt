@@ -120,7 +120,8 @@ fn released(
     end
 }
 
-// 7: the pairs lead from some rule back to itself.
+// 7: the pairs lead from some rule back to itself. It is not taken into its caller, so that its arrays lie under this test alone.
+#[inline(never)]
 pub fn has_cycle(layout: Layout) -> bool
     requires { (out_of_range layout.bytes.now layout.sizes ≡ false) × (disorder layout.bytes.now layout.sizes ≡ false) }
     ensures { result ≡ cycle layout.entry.bytes.now layout.entry.sizes }
