@@ -25,7 +25,9 @@ fn write_rules_of_both(out: &mut [u8], at: usize, side: Side, house: Table, tour
     more + 2 * usize::from(tour.sizes.entries)
 }
 
-// One array, of which the first n rows are the facts.
+// One array, of which the first n rows are the facts. It is taken into its caller, where the marks of facts are arrays: of a slice the length is
+// tested for each literal.
+#[inline(always)]
 pub fn write_side(out: &mut [u8], at: usize, side: Side, both: Both, n: u16)
     requires { (at ≤ 40000) × (n ≡ length (joined_said both).facts) }
     ensures { out.new ≡ with_words out.old at (map (word_in side) (rows_of (joined_said both.entry))) }

@@ -46,7 +46,9 @@ fn write_added(
     place
 }
 
-// The pairs whose stronger rule is the house's; and the place after them. `rules` has the tour's rules.
+// The pairs whose stronger rule is the house's; and the place after them. `rules` has the tour's rules. It is taken into its caller, as
+// `write_side` is: apart, a join at the limits takes a tenth more instructions.
+#[inline(always)]
 pub fn write_house_pairs(
     out: &mut [u8],
     at: usize,

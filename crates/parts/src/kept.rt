@@ -65,8 +65,9 @@ impl<'a> AtomPart<'a> {
         self.has_literal(self.table.rule(rule).head)
     }
 
-    // Whether a row of a section is the part's.
+    // Whether a row of a section is the part's. It is taken into its callers, where the section is known before the loop.
     #[tactic(auto, using(crate::proofs::Sections::rows_kept))]
+    #[inline(always)]
     fn keeps(&self, section: Section, i: usize) -> bool
         requires { i < size_of self.now.table.sizes section }
         ensures { result ≡ kept_in (content_said self.now.table) self.now.atom section i }
@@ -179,7 +180,8 @@ impl<'a> Renumbered<'a> {
         place
     }
 
-    // One array of the part's table.
+    // One array of the part's table. It is taken into its caller, where the part's fields are locals: by the reference each is read anew for each row.
+    #[inline(always)]
     pub fn write_side(&self, out: &mut [u8], at: usize, side: Side)
         requires { at ≤ 40000 }
         ensures { out.new ≡ with_words out.old at (map (word_in side) (rows_of (part_of (content_said self.now.part.table) self.now.part.atom))) }
