@@ -5,7 +5,9 @@ random: seeded; full: every size at 1/K of its limit, rules of every kind, 4 ant
 it; house and tour: half of that each, with facts of both and two rules of the tour against two of the house on each of the first atoms; joined:
 the two in one table, with every size at 1/K of its limit and half of the pairs added; up and down: rules from each atom to the next, or to the
 one before, round and round, with 4 antecedents each; ring: each literal rests strictly on the one before, the first on the last; rounds: steps
-of which each waits for a search of the well-founded reading to decide the one before; empty: nothing, for any K."""
+of which each waits for a search of the well-founded reading to decide the one before; even: the literals that say that an atom holds, as
+facts; tied: all literals, and one rule that names 160 atoms, for any K; empty: nothing, for any K. A SHAPE of five numbers, as 512,20,20,40,0,
+is a random table of these sizes, A, F, N, B and P, seeded by K."""
 import random, struct, sys
 shape, k = sys.argv[1], int(sys.argv[2])
 def table(a, facts, rules, pairs):
@@ -59,9 +61,13 @@ elif shape == 'teams':
     rules = [(1, 2 * (i // 4) + (i % 4) // 2, [2 * (a + (i * 7) % a)] ) for i in range(4 * a)]
     pairs = [(4 * j, 4 * j + 2) for j in range(a)] + [(4 * j + 1, 4 * j + 3) for j in range(a)]
     table(2 * a, [2 * (a + j) for j in range(a)], rules, pairs)
-elif shape == 'random':
+elif shape == 'even':
+    table(512 // k, range(0, 1024 // k, 2), [], [])
+elif shape == 'tied':
+    table(512, range(1024), [(1, 0, range(2, 320, 2))], [])
+elif shape == 'random' or ',' in shape:
     rnd = random.Random(k)
-    a, f, n, b, p = 512 // k, 64 // k, 1024 // k, 4096 // k, 2048 // k
+    a, f, n, b, p = map(int, shape.split(',')) if ',' in shape else (512 // k, 64 // k, 1024 // k, 4096 // k, 2048 // k)
     rules = [[rnd.choice([0, 1, 1, 2]), rnd.randrange(2 * a), set()] for _ in range(n)]
     while sum(len(r[2]) for r in rules) < b:
         rnd.choice(rules)[2].add(rnd.randrange(2 * a))
