@@ -30,7 +30,8 @@ fn write_file(out: &mut [u8], edition: Edition, sizes: Sizes, both: Both)
     write_side(out, right, Side::Right, both, sizes.facts);
 }
 
-// Two tables that are accepted, joined.
+// Two tables that are accepted, joined. It is not taken into its caller, so that no array lies under the judgements.
+#[inline(never)]
 fn join_tables(house: Table, tour: Table, edition: Edition, out: &mut [u8]) -> Result<u32, Refusal>
     ensures { JoinedLayouts edition house.entry.layout.now house.entry.sizes tour.entry.layout.now tour.entry.sizes out.old out.new result }
 {

@@ -16,7 +16,8 @@ use table::judge::Refusal;
 use writing::answer::refuse;
 use writing::columns::{Side, begin, mark_bytes, write_sizes};
 
-// The part's file at the front of the output, by its sizes.
+// The part's file at the front of the output, by its sizes. It is not taken into its caller, so that the new numbers do not lie under the judgement.
+#[inline(never)]
 fn write_file(out: &mut [u8], edition: Edition, sizes: Sizes, part: AtomPart)
     requires { sizes ≡ sizes_for (part_of (content_said part.table) part.atom) }
     ensures { out.new ≡ sets out.old 0 (file_of edition (part_of (content_said part.entry.table) part.entry.atom)) }
