@@ -34,8 +34,11 @@ call() { # NAME FUNCTION [WHAT]: the row of that call
   t=$(median < "$tmp/times.before"); u=$(median < "$tmp/times.now")
   row "$name" "$was" "$is" "$(over "$is" "$was" 2)" "$(over "$t" 1000 3)" "$(over "$u" 1000 3)" "$(over "$u" "$t" 2)"
 }
-head() { # TITLE: of a table of rows by `call`
+title() { # TITLE: of a table of rows by `call`
   echo; echo "| $1 | instructions, before | now | ratio | µs, before | now | ratio |"; echo "|---|---|---|---|---|---|---|"
+}
+sizes() { # SHAPE: that of a random table, in words
+  echo "$1" | awk -F, '{ split("A F N B P", size, " "); for (i = 1; i <= 5; i++) if ($i) printf("%s%s=%s", (i > 1 ? ", " : ""), size[i], $i) }'
 }
 two() { # in edition two
   "$tmp/once" fly_convert < "$tmp/table" > "$tmp/other"; mv "$tmp/other" "$tmp/table"
@@ -47,32 +50,29 @@ both() { # SHAPE K SHAPE K: the house's and the tour's tables
   table "$3" "$4"; mv "$tmp/table" "$tmp/tour"; table "$1" "$2"
 }
 
-head "fly_convert, back"
-for name in 512,0,1024,0,0 1,0,1024,0,0; do table $name 1; two; call $name fly_convert; done
+title "fly_convert, back"
+for shape in 1,0,1024,0,0 512,0,1024,0,0; do table $shape 1; two; call "$(sizes $shape)" fly_convert; done
 origin 1023; call "the same, an origin at the last rule" fly_convert
-table 1,0,1024,0,0 1; two; origin 0; call "the same, an origin at the first rule" fly_convert
-for name in chain star random full; do table $name 1; two; call "$name, limits" fly_convert; done
+table 512,0,1024,0,0 1; two; origin 0; call "the same, an origin at the first rule" fly_convert
+for shape in chain star random full; do table $shape 1; two; call "$shape, limits" fly_convert; done
 
-head fly_join
-both 512,0,0,0,0 1 512,0,0,0,0 2; call "512,0,0,0,0 on both sides" fly_join "$tmp/tour"
-both 512,256,0,0,0 1 512,512,0,0,0 2; call "512,256,0,0,0 with 512,512,0,0,0" fly_join "$tmp/tour"
-for n in 20 50 100; do
-  sizes=512,$n,$n,$((2 * n)),0
-  both $sizes 1 $sizes 2; call "$sizes on both sides" fly_join "$tmp/tour"
+title fly_join
+both 512,0,0,0,0 1 512,0,0,0,0 2; call "$(sizes 512,0,0,0,0) on both sides" fly_join "$tmp/tour"
+both 512,256,0,0,0 1 512,512,0,0,0 2; call "$(sizes 512,256,0,0,0) with $(sizes 512,512,0,0,0)" fly_join "$tmp/tour"
+for shape in 512,20,20,40,0 512,50,50,100,0 512,100,100,200,0 128,40,40,80,0; do
+  both $shape 1 $shape 2; call "$(sizes $shape) on both sides" fly_join "$tmp/tour"
 done
-both 128,40,40,80,0 1 128,40,40,80,0 2; call "128,40,40,80,0 on both sides" fly_join "$tmp/tour"
 both house 1 tour 1; call "house and tour, limits" fly_join "$tmp/tour"
 
-head "fly_part, of atom 0"
-table 512,1024,0,0,0 1; call 512,1024,0,0,0 fly_part 0
+title "fly_part, of atom 0"
+table 512,1024,0,0,0 1; call "$(sizes 512,1024,0,0,0)" fly_part 0
 table even 1; call "the 512 even literals as facts" fly_part 0
-table tied 1; call "1,024 facts, and a rule that names 160 atoms" fly_part 0
-table 512,1024,100,200,0 1; call 512,1024,100,200,0 fly_part 0
-table 512,1024,1024,2048,0 1; call 512,1024,1024,2048,0 fly_part 0
-table full 1; call "full, limits" fly_part 0
+table tied 1; call "1024 facts, and a rule that names 160 atoms" fly_part 0
+for shape in 512,1024,100,200,0 512,1024,1024,2048,0; do table $shape 1; call "$(sizes $shape)" fly_part 0; done
+for shape in random full; do table $shape 1; call "$shape, limits" fly_part 0; done
 table empty 1; call "no atoms, refused by 5" fly_part 0
 
-echo; echo "| bytes of stack | before | now |"; echo "|---|---|---|"
+echo; echo "| stack | bytes, before | now |"; echo "|---|---|---|"
 stacks() { # TABLE: the rows of the calls on it; what is joined is the table with itself
   cp "$tmp/table" "$tmp/tour"
   for function in fly_run fly_stands fly_convert fly_join fly_parts fly_part; do
