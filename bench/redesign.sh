@@ -1,7 +1,7 @@
 #!/bin/sh
 # redesign.sh ARCHIVE BEFORE: what the calls take that the design pass made dearer (docs/DESIGN-PASS.md), by this archive and by one of before it
-# (commit 82f584a): instructions, processor time and stack. Both must refuse alike and write the same. The time is the median of five jobs of at
-# least a second for each archive, in turns.
+# (commit 82f584a): instructions, processor time and stack. In what is timed both must refuse alike and write the same. The time is the median of
+# five jobs of a second or more for each archive, in turns.
 . "$(dirname "$0")/count.sh"
 before=${2:?the archive of before the design pass}
 again() { # NAME ARCHIVE [FLAG]: again with that archive
@@ -19,13 +19,14 @@ instructions() { # before|now FUNCTION [WHAT]: of one call
 }
 first() { # before|now FUNCTION TIMES|stack [WHAT]: the first word that again prints; the rest is in $tmp/answer.before or now
   of=$1; shift
-  "$tmp/again.$of" "$@" < "$tmp/table" > "$tmp/answer"; cut -d' ' -f2- "$tmp/answer" > "$tmp/answer.$of"; cut -d' ' -f1 "$tmp/answer"
+  env -u GLIBC_TUNABLES "$tmp/again.$of" "$@" < "$tmp/table" > "$tmp/answer"; cut -d' ' -f2- "$tmp/answer" > "$tmp/answer.$of"; cut -d' ' -f1 "$tmp/answer"
 }
 median() { sort -n | sed -n 3p; }
 call() { # NAME FUNCTION [WHAT]: the row of that call
   name=$1 function=$2; shift 2
   was=$(instructions before "$function" "$@"); is=$(instructions now "$function" "$@")
-  times=$(awk "BEGIN { printf \"%d\", 1.2e9 / $(first before "$function" 2000 "$@") + 1 }")
+  # As many calls as the faster of both makes in some 1.5 seconds; it is tried long enough for the processor to come to its speed.
+  times=$(for of in before now; do first $of "$function" 50000 "$@"; done | sort -n | awk 'NR == 1 { printf "%d", 1.5e9 / $1 + 1 }')
   : > "$tmp/times.before"; : > "$tmp/times.now"
   for turn in 1 2 3 4 5; do
     for of in before now; do first $of "$function" "$times" "$@" >> "$tmp/times.$of"; done
