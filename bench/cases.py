@@ -30,7 +30,7 @@ def seconds(program, folder, runs):
     return end.ru_utime + end.ru_stime - start.ru_utime - start.ru_stime
 
 def times(folder):
-    """The processor time of one run before and now: the medians of five jobs each, in turns, of a second or more before."""
+    """The processor time of one run before and now: the medians of five jobs each, in turns, of about a second before."""
     runs = int(1 / seconds(BEFORE, folder, 1)) + 1
     turns = [(seconds(BEFORE, folder, runs), seconds(PROGRAM, folder, runs)) for _ in range(5)]
     return (statistics.median(side) / runs for side in zip(*turns))
